@@ -1,0 +1,5 @@
+pub mod Overlays
+pub mod Places
+pub mod Repeats
+pub mod Starts
+pub mod Wholes
