@@ -1,0 +1,4 @@
+pub mod Inverses
+pub mod Names
+pub mod Refusals
+pub mod Tables
