@@ -1,0 +1,4 @@
+pub mod Blocks
+pub mod Maps
+pub mod Progress
+pub mod Writes
