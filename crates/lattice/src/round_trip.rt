@@ -25,8 +25,8 @@ pub fn round_trip<M: Map>(
     far: &mut [u8],
 ) -> Start
     ensures home { held start.new cells.new ≡ held start.old cells.old }
-    ensures turning { StartOf (repeated count (forward map.now) (held start.old cells.old)) result }
-    ensures far { far.new ≡ laid_over (repeated count (forward map.now) (held start.old cells.old)).cells far.old }
+    ensures turning { StartOf (repeated count (M.forward map.now) (held start.old cells.old)) result }
+    ensures far { far.new ≡ laid_over (repeated count (M.forward map.now) (held start.old cells.old)).cells far.old }
 {
     map.advance_by(count, start, cells);
     let turning = *start;

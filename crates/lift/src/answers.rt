@@ -14,7 +14,7 @@ use rules::rule::LocalRule;
 
 // The present stays: neighbours that are done later still see it.
 fn answer_cell<R: LocalRule>(rule: &R, around: Neighbourhood, cell: u8) -> u8
-    ensures { result ≡ xored cell (answer rule.now (number_of around)) }
+    ensures { result ≡ xored cell (R.answer rule.now (number_of around)) }
 {
     let past = cell / 2 % 2 + rule.answer_to(around);
     cell / 4 * 4 + past % 2 * 2 + cell % 2
@@ -24,7 +24,7 @@ fn answer_cell<R: LocalRule>(rule: &R, around: Neighbourhood, cell: u8) -> u8
 fn answer_row<R: LocalRule>(rule: &R, start: &Start, cells: &mut [u8], y: usize)
     requires whole { length cells.old ≡ width_of start.now * height_of start.now }
     requires row { y < height_of start.now }
-    ensures { Answered (answer rule.now) (width_of start.now) (height_of start.now) (y * width_of start.now) (y * width_of start.now + width_of start.now) cells.old cells.new }
+    ensures { Answered (R.answer rule.now) (width_of start.now) (height_of start.now) (y * width_of start.now) (y * width_of start.now + width_of start.now) cells.old cells.new }
 {
     let width = start.width();
     let band = Band::around(start, y);
@@ -43,7 +43,7 @@ fn answer_row<R: LocalRule>(rule: &R, start: &Start, cells: &mut [u8], y: usize)
 // All cells.
 pub(crate) fn answer_cells<R: LocalRule>(rule: &R, start: &Start, cells: &mut [u8])
     requires whole { length cells.old ≡ width_of start.now * height_of start.now }
-    ensures { cells.new ≡ by_place (width_of start.now) (height_of start.now) (answered (answer rule.now) (width_of start.now) (height_of start.now) cells.old) }
+    ensures { cells.new ≡ by_place (width_of start.now) (height_of start.now) (answered (R.answer rule.now) (width_of start.now) (height_of start.now) cells.old) }
 {
     for y in 0..start.height() {
         answer_row(rule, start, cells, y);

@@ -11,7 +11,7 @@ use rules::rule::LocalRule;
 
 pub(crate) fn forward_cells<R: LocalRule>(rule: &R, start: &Start, cells: &mut [u8])
     requires whole { length cells.old ≡ width_of start.now * height_of start.now }
-    ensures cells { cells.new ≡ by_place (width_of start.now) (height_of start.now) (lifted (answer rule.now) (width_of start.now) (height_of start.now) cells.old) }
+    ensures cells { cells.new ≡ by_place (width_of start.now) (height_of start.now) (lifted (R.answer rule.now) (width_of start.now) (height_of start.now) cells.old) }
     ensures low { OnlyBelow 4 cells.old cells.new }
 {
     answer_cells(rule, start, cells);
@@ -20,7 +20,7 @@ pub(crate) fn forward_cells<R: LocalRule>(rule: &R, start: &Start, cells: &mut [
 
 pub(crate) fn backward_cells<R: LocalRule>(rule: &R, start: &Start, cells: &mut [u8])
     requires whole { length cells.old ≡ width_of start.now * height_of start.now }
-    ensures cells { cells.new ≡ by_place (width_of start.now) (height_of start.now) (unlifted (answer rule.now) (width_of start.now) (height_of start.now) cells.old) }
+    ensures cells { cells.new ≡ by_place (width_of start.now) (height_of start.now) (unlifted (R.answer rule.now) (width_of start.now) (height_of start.now) cells.old) }
     ensures low { OnlyBelow 4 cells.old cells.new }
 {
     exchange_cells(cells);

@@ -1,4 +1,6 @@
 // Examples of local rules, lifts, layers and named maps, with results worked out by hand or by the model under tools/.
+#![tactic(auto)]
+
 #[cfg(test)]
 mod lifts;
 #[cfg(test)]

@@ -1,6 +1,9 @@
 // Moves lattices of many shapes and prints digests of them, to be held against an independent model.
+#![tactic(auto)]
+
 mod sample;
 
+use anyhow::anyhow;
 use block_map::map::BlockMap;
 use cell_map::map::CellMap;
 use lattice::map::Map;
@@ -65,7 +68,7 @@ fn show_lattice(rt: &HostRuntime, start: &Start, cells: &[u8]) -> anyhow::Result
 }
 
 fn refused() -> anyhow::Error {
-    "a sample is refused".into()
+    anyhow!("a sample is refused")
 }
 
 fn show_blocks(rt: &HostRuntime, start: Start) -> anyhow::Result<()> {

@@ -22,7 +22,7 @@ fn lands<M: Map>(
     turned: u32,
     far: &[u8],
 ) -> bool
-    ensures { Lands (repeated count (forward map.now)) side phase cells.old turned far.now result }
+    ensures { Lands (repeated count (M.forward map.now)) side phase cells.old turned far.now result }
 {
     match Start::new(side, side, phase) {
         Ok(mut start) => {

@@ -1,4 +1,6 @@
 // Local rules: what a cell's neighbourhood answers, 0 or 1.
+#![tactic(auto)]
+
 pub mod count;
 pub mod neighbourhood;
 pub mod refusal;

@@ -1,4 +1,6 @@
 // Moves lattices of many shapes by lifts, stacks and named maps, and prints digests of them, to be held against an independent model.
+#![tactic(auto)]
+
 mod line;
 mod maps;
 mod sample;

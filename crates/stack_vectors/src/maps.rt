@@ -1,5 +1,6 @@
 // The maps that are shown, kind by kind.
 use crate::line::show;
+use anyhow::anyhow;
 use block_map::map::BlockMap;
 use cell_map::map::CellMap;
 use lattice::start::Start;
@@ -21,7 +22,7 @@ const LOPSIDED: [u8; 16] = [3, 10, 1, 8, 15, 6, 13, 4, 11, 2, 9, 0, 7, 14, 5, 12
 const CYCLE: [u8; 4] = [1, 2, 3, 0];
 
 fn refused() -> anyhow::Error {
-    "a sample is refused".into()
+    anyhow!("a sample is refused")
 }
 
 fn lopsided() -> anyhow::Result<BlockMap> {

@@ -1,4 +1,6 @@
 // Tables of numbers that are permutations by their type.
+#![tactic(auto)]
+
 pub mod block;
 pub mod cell;
 pub mod entries;

@@ -1,4 +1,6 @@
 // Takes two lattices a way forward and the same way back, and shows where they come out.
+#![tactic(auto)]
+
 ghost use Rattle.std.specs.Prelude.{◌≡◌, if◌then◌else◌, codes};
 
 mod drawing;

@@ -11,7 +11,7 @@ loop-j-init c = let s = c.args.start.now in rows_none _ _ _ _ (start_wide s) (st
 pub loop-j-preserved : goal.loop-j-preserved
 loop-j-preserved c =
     let s = c.args.start.now in
-    rows_more _ _ _ _ (start_wide s) (start_high s) (start_phased s) c.loop-j.j _ _ _ _ (omega arith) c.loop-j.invariant c.rewrite-row.ensures
+    rows_more _ _ _ _ (start_wide s) (start_high s) (start_phased s) c.loop-j.j _ _ _ _ (omega arith) c.loop-j.invariant c.rewrite_row.ensures
 
 pub returns : goal.returns
 returns c =

@@ -11,7 +11,7 @@ returns g c =
     record {
       home =
           home_again (g.M.Map.forward m) (g.M.Map.backward m) (laws.forward_keeps m) (laws.back_undoes_forward m) c.args.count _ _ _
-          (held_within c.args.start.now c.args.cells.now (λ k. (bytes k).fits)) c.advance-by.ensures c.retreat-by.ensures;
-      turning = far_start _ c.advance-by.new.start c.advance-by.new.cells c.advance-by.ensures;
-      far = far_cells _ c.advance-by.new.start c.advance-by.new.cells c.args.far.now _ c.advance-by.ensures c.lay-over.ensures;
+          (held_within c.args.start.now c.args.cells.now (λ k. (bytes k).fits)) c.advance_by.ensures c.retreat_by.ensures;
+      turning = far_start _ c.advance_by.new.start c.advance_by.new.cells c.advance_by.ensures;
+      far = far_cells _ c.advance_by.new.start c.advance_by.new.cells c.args.far.now _ c.advance_by.ensures c.lay_over.ensures;
     }

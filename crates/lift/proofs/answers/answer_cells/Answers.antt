@@ -7,7 +7,7 @@ use Rattle.lift.proofs.answers.answer_cells.Goals as goal
 pub loop-y-preserved : goal.loop-y-preserved
 loop-y-preserved g c =
     let s = c.args.start.now in
-    answered_row (g.R.LocalRule.answer c.args.rule.now) (width_of s) (height_of s) (start_wide s) (start_high s) c.loop-y.y c.args.cells.now c.loop-y.cells _ c.loop-y.invariant c.answer-row.ensures
+    answered_row (g.R.LocalRule.answer c.args.rule.now) (width_of s) (height_of s) (start_wide s) (start_high s) c.loop-y.y c.args.cells.now c.loop-y.cells _ c.loop-y.invariant c.answer_row.ensures
 
 pub returns : goal.returns
 returns g c =

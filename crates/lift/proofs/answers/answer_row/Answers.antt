@@ -51,9 +51,9 @@ loop-x-preserved g c =
     let f = g.R.LocalRule.answer c.args.rule.now in
     row_more (g.R.LocalRule.answer c.args.rule.now) c.args.start.now c.args.cells.now c.requires.whole c.args.y c.requires.row
     b.result.north b.result.here b.result.south b.ensures.north b.ensures.here b.ensures.south
-    c.width-width.result c.loop-x.x c.next.result c.loop-x.west c.loop-x.here c.column-east.result c.answer-cell.result c.loop-x.cells
+    c.width-width.result c.loop-x.x c.next.result c.loop-x.west c.loop-x.here c.column-east.result c.answer_cell.result c.loop-x.cells
     c.width-width.ensures c.loop-x-test.true c.next.ensures c.loop-x.invariant c.column-east.ensures
-    (c.answer-cell.ensures ∙ ap (λ n. xored (get_or c.loop-x.cells (b.result.here + c.loop-x.x) 0) (f n)) c.from-bits-around.ensures)
+    (c.answer_cell.ensures ∙ ap (λ n. xored (get_or c.loop-x.cells (b.result.here + c.loop-x.x) 0) (f n)) c.from_bits-around.ensures)
 
 pub returns : goal.returns
 returns g c =

@@ -9,5 +9,5 @@ returns g c =
     let f = g.R.LocalRule.answer c.args.rule.now in
     let s = c.args.start.now in
     let cs = c.args.cells.now in
-    let all = cells_backward f s cs c.exchange-cells.new.cells _ c.requires.whole c.exchange-cells.ensures c.answer-cells.ensures in
+    let all = cells_backward f s cs c.exchange_cells.new.cells _ c.requires.whole c.exchange_cells.ensures c.answer_cells.ensures in
     record { cells = all; low = low_alone f s cs cs _ c.requires.whole (unlifted f (width_of s) (height_of s) cs) (unlifted_high f (width_of s) (height_of s) cs) all }

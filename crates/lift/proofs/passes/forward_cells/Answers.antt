@@ -9,5 +9,5 @@ returns g c =
     let f = g.R.LocalRule.answer c.args.rule.now in
     let s = c.args.start.now in
     let cs = c.args.cells.now in
-    let all = cells_forward f s cs c.answer-cells.new.cells _ c.requires.whole c.answer-cells.ensures c.exchange-cells.ensures in
+    let all = cells_forward f s cs c.answer_cells.new.cells _ c.requires.whole c.answer_cells.ensures c.exchange_cells.ensures in
     record { cells = all; low = low_alone f s cs cs _ c.requires.whole (lifted f (width_of s) (height_of s) cs) (lifted_high f (width_of s) (height_of s) cs) all }

@@ -6,8 +6,8 @@ use Rattle.lattice.proofs.Torus.{side_some}
 use Rattle.row_shift.proofs.Progress.{rows_more, rows_all}
 use Rattle.row_shift.proofs.rows.shift_rows.Goals as goal
 
-pub shift-row-requires : goal.shift-row-requires
-shift-row-requires c =
+pub shift_row-requires : goal.shift_row-requires
+shift_row-requires c =
     let s = c.args.start.now in
     let some = side_some (width_of s) (start_wide s) in
     let is = c.width-width.ensures in
@@ -17,7 +17,7 @@ shift-row-requires c =
 
 pub loop-y-preserved : goal.loop-y-preserved
 loop-y-preserved c =
-    rows_more (width_of c.args.start.now) c.args.way c.width-width.result c.loop-y.y c.args.cells.now c.loop-y.cells _ c.width-width.ensures c.loop-y.invariant c.shift-row.ensures
+    rows_more (width_of c.args.start.now) c.args.way c.width-width.result c.loop-y.y c.args.cells.now c.loop-y.cells _ c.width-width.ensures c.loop-y.invariant c.shift_row.ensures
 
 pub returns : goal.returns
 returns c =

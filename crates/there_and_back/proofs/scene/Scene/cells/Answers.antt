@@ -3,4 +3,4 @@ use Rattle.std.proofs.lemmas.List.{with_items_is}
 use Rattle.there_and_back.proofs.scene.Scene.cells.Goals as goal
 
 pub returns : goal.returns
-returns c = with_items_is c.in-ok-cells.cells c.sow.new.cells (omega arith) ∙ c.sow.ensures
+returns c = with_items_is c.in_ok-cells.cells c.sow.new.cells (omega arith) ∙ c.sow.ensures
