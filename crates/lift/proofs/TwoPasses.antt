@@ -5,7 +5,7 @@ use mathlib.Core.List.{map-map}
 use Rattle.std.proofs.lemmas.List.{length-map, get_or-map, get_or_past}
 use Rattle.std.proofs.lemmas.Bool.{cases_lt}
 use Rattle.std.specs.List.{range_with_len}
-use Rattle.lattice.specs.Cells.{cell, present, past, by_place, OnlyBelow}
+use Rattle.lattice.specs.Cells.{cell, present, by_place, OnlyBelow}
 use Rattle.lattice.specs.Starts.{width_of, height_of}
 use Rattle.lattice.specs.declared.start.Start.{Start}
 use Rattle.lattice.proofs.Places.{only_below_by_place}

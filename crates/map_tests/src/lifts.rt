@@ -3,6 +3,7 @@ use crate::samples::*;
 use lattice::map::Map;
 use lift::map::Lift;
 use rules::count::CountRule;
+use std::test::Fail;
 
 fn counted() -> Result<Lift<CountRule>, Fail> {
     match CountRule::new(74, 300) {

@@ -7,6 +7,7 @@ use named_maps::life2::life2;
 use named_maps::mixed::mixed;
 use named_maps::named::NamedMap;
 use std::process::Abort;
+use std::test::Fail;
 
 #[test]
 fn life_lifted(rt: HostRuntime) -> Result<(), Fail> {

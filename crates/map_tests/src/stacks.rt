@@ -6,6 +6,7 @@ use layers::count::Count;
 use layers::reverse::Reverse;
 use layers::then::Then;
 use layers::times::Times;
+use std::test::Fail;
 
 fn count(number: u32) -> Result<Count, Fail> {
     match Count::new(number) {
