@@ -18,13 +18,7 @@ FALLS_TOGETHER = {
 }
 
 # A dash stays where it joins the names of two functions.
-JOINED = {
-    "after-before": "after-before",
-    "before-after": "before-after",
-    "length-by-place": "length-by_place",
-    "cell-by-place": "cell-by_place",
-    "getD-exchanged": "get_or-exchanged",
-}
+JOINED = {"after-before", "before-after"}
 
 DASHED = r"([A-Za-z_][\w']*(?:-[\w']+)+)"
 DEFINED = re.compile(rf"\s*(?:abbrev |unfoldable )?(?:pub )?{DASHED} :(?!=)(?! goal\.)")
@@ -53,7 +47,7 @@ def own_names():
 
 
 def respelled(name):
-    return FALLS_TOGETHER.get(name) or JOINED.get(name) or name.replace("-", "_")
+    return name if name in JOINED else FALLS_TOGETHER.get(name, name.replace("-", "_"))
 
 
 def main():

@@ -2,7 +2,7 @@
 //
 // Whoever adds a map writes an `impl Map` with
 //   - two ghost functions, `forward` and `backward`, that say what the map does to a lattice;
-//   - the proofs of the four laws below, in the file `TheImpl/Answers.antt` of its folder in `proofs/`;
+//   - the proofs of the four laws below, as ghost members of their names that cite lemmas;
 //   - the methods `advance` and `retreat`, which do it.
 // `advance_by` and `retreat_by` come with a body; a map that knows a faster way may bring its own.
 // docs/MAPS.md says in words what a map owes, and specs/Maps.antt defines it.

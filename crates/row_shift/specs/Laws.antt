@@ -16,7 +16,7 @@ use Rattle.row_shift.specs.declared.way.Way.TheVariants.{East, West}
 pub shifted_keeps : (way : Way) → Keeps (every_cell (shifted way))
 shifted_keeps way = every_cell_keeps (shifted way) (λ w h _ _ cs bytes x y _ _. bytes _)
 
--- a cell that comes_from from one column, and is then taken from there, is at its old place
+-- a cell that comes from one column, and is then taken from there, is at its old place
 shifted_undone : (way back : Way) → ((w : ℕ) → Side w → (x : ℕ) → x < w → comes_from back w x < w) → ((w : ℕ) → Side w → (x : ℕ) → x < w → comes_from way w (comes_from back w x) ≡ x)
     → UndoneBy (every_cell (shifted way)) (every_cell (shifted back))
 shifted_undone way back inside home = every_cell_undone (shifted way) (shifted back) (λ w h wide high cs x y x< y<.
