@@ -1,7 +1,7 @@
 // Making a count rule, and its answers.
 ghost use Rattle.rules.specs.Refusals.{Masked};
 ghost use Rattle.rules.specs.Rules.{count_answer, birth_of, survival_of};
-ghost use Rattle.std.proofs.Common.{rules, arith};
+ghost use Rattle.std.proofs.Common.{rules};
 
 use super::CountRule;
 use crate::neighbourhood::Neighbourhood;
@@ -27,7 +27,7 @@ impl CountRule {
 impl LocalRule for CountRule {
     ghost answer = { λ r. count_answer (birth_of r) (survival_of r) };
 
-    ghost binary = { first_of (Prim.search rules, Prim.grind (arith, Self.row.coded.inj)) };
+    ghost binary = { Prim.search rules };
 
     fn answer_to(&self, around: Neighbourhood) -> u8 {
         let mask = if around.centre() == 1 {

@@ -3,7 +3,7 @@ ghost use Rattle.std.specs.Prelude.{◌≡◌, replicate};
 ghost use Rattle.rules.specs.Bits.{AllBits};
 ghost use Rattle.rules.specs.Refusals.{TableFilled};
 ghost use Rattle.rules.specs.Rules.{entries_of, table_answer};
-ghost use Rattle.std.proofs.Common.{rules, arith};
+ghost use Rattle.std.proofs.Common.{rules};
 
 use super::TableRule;
 use crate::neighbourhood::Neighbourhood;
@@ -52,7 +52,7 @@ impl TableRule {
 impl LocalRule for TableRule {
     ghost answer = { table_answer };
 
-    ghost binary = { first_of (Prim.search rules, Prim.grind (arith, Self.row.coded.inj)) };
+    ghost binary = { Prim.search rules };
 
     fn answer_to(&self, around: Neighbourhood) -> u8 {
         self.entries[around.number() as usize]
