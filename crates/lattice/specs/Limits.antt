@@ -1,7 +1,7 @@
 -- The limits of every lattice.
 --     max_side, max_area, max_phase    the largest of each
 --     Side n                           n can be the number of columns or of rows: even, and 2 to max_side
---     side_test n                        the same as a test
+--     side_test n                      the same as a test
 use Rattle.std.specs.Prelude.{◌≡◌, ℕ, ◌%◌, ◌≤◌, Bool, ◌&&◌, ◌==◌, nat_le}
 
 abbrev pub max_side : ℕ
