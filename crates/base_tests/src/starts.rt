@@ -2,36 +2,33 @@
 use lattice::start::Start;
 use std::test::Fail;
 
-// The number of the cause, or 0 where the start record is made.
-fn refusal(width: u32, height: u32, phase: u32) -> u8 {
-    match Start::new(width, height, phase) {
-        Ok(_) => 0,
-        Err(cause) => cause.number(),
-    }
+// The number of the cause, or `None` where the start record is made.
+fn refusal(width: u32, height: u32, phase: u32) -> Option<u8> {
+    Start::new(width, height, phase).err().map(u8::from)
 }
 
 #[test]
 fn limits_at_their_edges(rt: HostRuntime) {
-    let cases: [(u32, u32, u32, u8); 19] = [
-        (2, 2, 0, 0),
-        (2, 2, 1, 0),
-        (256, 64, 1, 0),
-        (64, 256, 0, 0),
-        (128, 128, 0, 0),
-        (256, 2, 0, 0),
-        (0, 2, 0, 1),
-        (2, 0, 0, 1),
-        (3, 2, 0, 1),
-        (2, 255, 0, 1),
-        (258, 2, 0, 1),
-        (2, 258, 0, 1),
-        (4_294_967_295, 2, 0, 1),
-        (2, 4_294_967_294, 0, 1),
-        (256, 66, 0, 2),
-        (66, 256, 9, 2),
-        (256, 256, 0, 2),
-        (256, 64, 2, 3),
-        (255, 999, 7, 1),
+    let cases: [(u32, u32, u32, Option<u8>); 19] = [
+        (2, 2, 0, None),
+        (2, 2, 1, None),
+        (256, 64, 1, None),
+        (64, 256, 0, None),
+        (128, 128, 0, None),
+        (256, 2, 0, None),
+        (0, 2, 0, Some(1)),
+        (2, 0, 0, Some(1)),
+        (3, 2, 0, Some(1)),
+        (2, 255, 0, Some(1)),
+        (258, 2, 0, Some(1)),
+        (2, 258, 0, Some(1)),
+        (4_294_967_295, 2, 0, Some(1)),
+        (2, 4_294_967_294, 0, Some(1)),
+        (256, 66, 0, Some(2)),
+        (66, 256, 9, Some(2)),
+        (256, 256, 0, Some(2)),
+        (256, 64, 2, Some(3)),
+        (255, 999, 7, Some(1)),
     ];
     for (width, height, phase, number) in cases {
         assert_eq!(rt; refusal(width, height, phase), number);
@@ -40,19 +37,15 @@ fn limits_at_their_edges(rt: HostRuntime) {
 
 #[test]
 fn a_start_record_is_read_and_turned(rt: HostRuntime) -> Result<(), Fail> {
-    match Start::new(256, 62, 1) {
-        Ok(start) => {
-            assert_eq!(rt; (start.width(), start.height()), (256, 62));
-            assert_eq!(rt; start.cell_count(), 15_872);
-            assert_eq!(rt; start.phase(), 1);
-            assert_eq!(rt; start.turned().phase(), 0);
-            assert_eq!(rt; start.turned().turned().phase(), 1);
-            assert_eq!(rt;
-                (start.turned().width(), start.turned().height()),
-                (256, 62)
-            );
-            Ok(())
-        }
-        Err(_) => Err(Fail::new("refused")),
-    }
+    let start = Start::new(256, 62, 1)?;
+    assert_eq!(rt; (start.width(), start.height()), (256, 62));
+    assert_eq!(rt; start.cell_count(), 15_872);
+    assert_eq!(rt; start.phase(), 1);
+    assert_eq!(rt; start.turned().phase(), 0);
+    assert_eq!(rt; start.turned().turned().phase(), 1);
+    assert_eq!(rt;
+        (start.turned().width(), start.turned().height()),
+        (256, 62)
+    );
+    Ok(())
 }

@@ -2,7 +2,7 @@
 use Rattle.std.specs.Prelude.{◌≡◌, ℕ, List, length, refl}
 use Rattle.std.proofs.Common.{sym, ◌∙◌, ap, arith}
 use Rattle.lattice.specs.Lattice.{Lattice, Whole, Within, SameShape, turned, with_cells}
-use Rattle.lattice.specs.Maps.{UndoneBy, Keeps}
+use Rattle.lattice.specs.Maps.{UndoneBy, Keeps, Reversible}
 use Rattle.lattice.proofs.Places.{length_by_place, bytes_by_place}
 use Rattle.lattice.proofs.Wholes.{if_whole_keeps, if_whole_undoes, turned_twice, turned_within}
 use Rattle.tables.specs.Inverses.{InvertedBy}
@@ -49,3 +49,12 @@ module _ (t u : List ℕ) (undo : InvertedBy 16 t u) where
   pub backward_undone : UndoneBy (block_backward t) (block_forward u)
   backward_undone = if_whole_undoes (λ l. blocks_rewritten t (turned l)) (λ l. turned (blocks_rewritten u l)) (backward_shape t)
       (λ l w whole. ap turned (rewritten_back (turned l) (turned_within l w) whole) ∙ turned_twice l w.phased)
+
+-- forward by a table, and back by its inverse
+pub block_laws : (t u : List ℕ) → InvertedBy 16 t u → InvertedBy 16 u t → Reversible (block_forward t) (block_backward u)
+block_laws t u there home = record {
+  back_undoes_forward = forward_undone t u there;
+  forward_undoes_back = backward_undone u t home;
+  forward_keeps = keeps_forward t;
+  backward_keeps = keeps_backward u;
+}

@@ -7,10 +7,10 @@ use Rattle.std.specs.Prelude.{ℕ, List}
 use Rattle.lattice.specs.Cells.{by_place}
 use Rattle.lattice.specs.Lattice.{Lattice, turned, with_cells, if_whole}
 use Rattle.block_map.specs.Blocks.{rewritten}
-use Rattle.tables.specs.declared.block.BlockTable.{BlockTable}
+use Rattle.tables.specs.declared.table.Table.{Table}
 use Rattle.block_map.specs.declared.map.BlockMap.{BlockMap}
 
-abbrev pub table_of : BlockMap → BlockTable
+abbrev pub table_of : BlockMap → Table 16
 table_of m = m.table
 
 abbrev pub blocks_rewritten : List ℕ → Lattice → Lattice

@@ -131,9 +131,9 @@ module _ (t u : List ℕ) (undo : InvertedBy 16 t u) (w h p : ℕ) (wide : Side 
           ap (bit 1 1) v_is ∙ fourth_bit a b c d pa pb pc pd,
         )
 
-    block_back : (x y : ℕ) → x < w → y < h → corner w p x ≡ X → corner h p y ≡ Y → rewritten u w h p new x y ≡ cell w cs x y
+    back : (x y : ℕ) → x < w → y < h → corner w p x ≡ X → corner h p y ≡ Y → rewritten u w h p new x y ≡ cell w cs x y
     unfolding a b c d
-    block_back x y x< y< cx cy = elim (px.members x x< cx) [
+    back x y x< y< cx cy = elim (px.members x x< cx) [
       | inl m ↦ elim (py.members y y< cy) [ inl n ↦ at X Y 0 0 m n bits_of_v.0 | inr n ↦ at X Y' 0 1 m n bits_of_v.2 ]
       | inr m ↦ elim (py.members y y< cy) [ inl n ↦ at X' Y 1 0 m n bits_of_v.1 | inr n ↦ at X' Y' 1 1 m n bits_of_v.3 ]
     ]
@@ -146,7 +146,7 @@ module _ (t u : List ℕ) (undo : InvertedBy 16 t u) (w h p : ℕ) (wide : Side 
   blocks_undone = sym (by_place_from_cells w h (omega arith) (rewritten u w h p new) cs long (λ x y x< y<.
       let X = corner w p x in
       let Y = corner h p y in
-      sym (block_back X (after w X) Y (after h Y)
+      sym (back X (after w X) Y (after h Y)
       (pair w p wide phase X (after w X) (corner_is w p wide phase x x<) refl)
       (pair h p high phase Y (after h Y) (corner_is h p high phase y y<) refl)
       x y x< y< refl refl)))

@@ -1,6 +1,7 @@
 // Rewriting the blocks of one phase in place.
-ghost use Rattle.std.specs.Prelude.{◌≡◌, ◌*◌, ◌<◌, length};
+ghost use Rattle.std.specs.Prelude.{◌≡◌, ◌<◌, length};
 ghost use Rattle.lattice.specs.Cells.{OnlyBelow};
+ghost use Rattle.lattice.specs.Lattice.{Whole};
 ghost use Rattle.lattice.specs.Starts.{width_of, height_of, phase_of, held};
 ghost use Rattle.lattice.specs.Torus.{after};
 ghost use Rattle.block_map.specs.Maps.{blocks_rewritten};
@@ -36,7 +37,7 @@ fn rewrite_block(
     y: usize,
     below: usize,
 )
-    requires whole { length cells.old ≡ width_of start.now * height_of start.now }
+    requires whole { Whole (held start.now cells.old) }
     requires column { IsCorner (width_of start.now) (phase_of start.now) x }
     requires right { right ≡ after (width_of start.now) x }
     requires row { IsCorner (height_of start.now) (phase_of start.now) y }
@@ -58,15 +59,14 @@ fn rewrite_block(
 // The blocks whose upper cells are in row y, and whose lower ones are in the row `below`.
 // At phase 1 the last block goes round the end of the row, and is done apart.
 fn rewrite_row(table: &[u8; 16], start: &Start, cells: &mut [u8], y: usize, below: usize)
-    requires whole { length cells.old ≡ width_of start.now * height_of start.now }
+    requires whole { Whole (held start.now cells.old) }
     requires row { IsCorner (height_of start.now) (phase_of start.now) y }
     requires below { below ≡ after (height_of start.now) y }
     ensures { RewroteAt table.now start.now (in_row y) cells.old cells.new }
 {
     let width = start.width();
-    let phase = start.phase() as usize;
-    for i in 0..width / 2 - phase {
-        let x = 2 * i + phase;
+    let phase = usize::from(start.phase());
+    for x in (phase..width - 1).step_by(2) {
         rewrite_block(table, start, cells, x, x + 1, y, below);
     }
     if phase == 1 {
@@ -76,14 +76,12 @@ fn rewrite_row(table: &[u8; 16], start: &Start, cells: &mut [u8], y: usize, belo
 
 // All blocks of the start record's phase.
 pub(crate) fn rewrite_blocks(table: &[u8; 16], start: &Start, cells: &mut [u8])
-    requires whole { length cells.old ≡ width_of start.now * height_of start.now }
+    requires whole { Whole (held start.now cells.old) }
     ensures cells { held start.now cells.new ≡ blocks_rewritten table.now (held start.now cells.old) }
     ensures presents { OnlyBelow 2 cells.old cells.new }
 {
     let height = start.height();
-    let phase = start.phase() as usize;
-    for j in 0..height / 2 {
-        let y = 2 * j + phase;
+    for y in (usize::from(start.phase())..height).step_by(2) {
         let below = if y + 1 == height { 0 } else { y + 1 };
         rewrite_row(table, start, cells, y, below);
     }

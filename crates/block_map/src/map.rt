@@ -2,10 +2,10 @@
 ghost use Rattle.std.specs.Prelude.{◌≡◌};
 ghost use Rattle.lattice.specs.Cells.{OnlyBelow};
 ghost use Rattle.lattice.specs.Starts.{held};
-ghost use Rattle.tables.specs.Tables.{block_entries, block_inverse};
+ghost use Rattle.tables.specs.Tables.{entries_of, inverse_of};
 ghost use Rattle.block_map.specs.Maps.{block_forward, block_backward, table_of};
-ghost use Rattle.tables.proofs.Tables.{block_back, block_forth};
-ghost use Rattle.block_map.specs.Laws.{forward_undone, backward_undone, keeps_forward, keeps_backward};
+ghost use Rattle.tables.proofs.Tables.{back, forth};
+ghost use Rattle.block_map.specs.Laws.{block_laws};
 
 use crate::blocks::rewrite_blocks;
 use lattice::map::Map;
@@ -26,21 +26,15 @@ impl BlockMap {
 }
 
 impl Map for BlockMap {
-    ghost forward = { λ m. block_forward (block_entries (table_of m)) };
+    ghost forward = { λ m. block_forward (entries_of (table_of m)) };
 
-    ghost backward = { λ m. block_backward (block_inverse (table_of m)) };
+    ghost backward = { λ m. block_backward (inverse_of (table_of m)) };
 
-    ghost back_undoes_forward = { λ m. forward_undone (block_entries m.table) (block_inverse m.table) (block_back m.table) };
-
-    ghost forward_undoes_back = { λ m. backward_undone (block_inverse m.table) (block_entries m.table) (block_forth m.table) };
-
-    ghost forward_keeps = { λ m. keeps_forward (block_entries m.table) };
-
-    ghost backward_keeps = { λ m. keeps_backward (block_inverse m.table) };
+    ghost laws = { λ m. block_laws (entries_of m.table) (inverse_of m.table) (back m.table) (forth m.table) };
 
     // Of a cell, only the present changes.
     fn advance(&self, start: &mut Start, cells: &mut [u8])
-        ensures moved { held start.new cells.new ≡ block_forward (block_entries (table_of self.now)) (held start.old cells.old) }
+        ensures moved { held start.new cells.new ≡ block_forward (entries_of (table_of self.now)) (held start.old cells.old) }
         ensures presents { OnlyBelow 2 cells.old cells.new }
     {
         if start.is_whole(cells) {
@@ -50,7 +44,7 @@ impl Map for BlockMap {
     }
 
     fn retreat(&self, start: &mut Start, cells: &mut [u8])
-        ensures moved { held start.new cells.new ≡ block_backward (block_inverse (table_of self.now)) (held start.old cells.old) }
+        ensures moved { held start.new cells.new ≡ block_backward (inverse_of (table_of self.now)) (held start.old cells.old) }
         ensures presents { OnlyBelow 2 cells.old cells.new }
     {
         if start.is_whole(cells) {

@@ -5,7 +5,7 @@ use Rattle.std.proofs.lemmas.List.{length-map, get_or-map, get_or_past}
 use Rattle.std.proofs.lemmas.Bool.{cases_lt}
 use Rattle.lattice.specs.Cells.{OnlyBelow}
 use Rattle.lattice.specs.Lattice.{Lattice, SameShape, Bytes, with_cells}
-use Rattle.lattice.specs.Maps.{UndoneBy, Keeps}
+use Rattle.lattice.specs.Maps.{UndoneBy, Keeps, Reversible}
 use Rattle.lattice.proofs.Wholes.{if_whole_keeps, if_whole_undoes}
 use Rattle.tables.specs.Inverses.{InvertedBy}
 use Rattle.cell_map.specs.Maps.{replaced, cell_moved}
@@ -61,3 +61,12 @@ module _ (t u : List ℕ) (undo : InvertedBy 4 t u) where
   pub moved_undone : UndoneBy (cell_moved t) (cell_moved u)
   moved_undone = if_whole_undoes (λ l. with_cells l (map (replaced t) l.cells)) (λ l. with_cells l (map (replaced u) l.cells))
       (λ l _ _. moved_shape l) (λ l _ _. ap (with_cells l) (all_back l.cells))
+
+-- forward by a table, and back by its inverse
+pub cell_laws : (t u : List ℕ) → InvertedBy 4 t u → InvertedBy 4 u t → Reversible (cell_moved t) (cell_moved u)
+cell_laws t u there home = record {
+  back_undoes_forward = moved_undone t u there;
+  forward_undoes_back = moved_undone u t home;
+  forward_keeps = moved_keeps t u there;
+  backward_keeps = moved_keeps u t home;
+}

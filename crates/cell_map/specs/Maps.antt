@@ -4,10 +4,10 @@
 --     cell_moved t     every cell so, where the lattice is whole; back is the same with the inverse table
 use Rattle.std.specs.Prelude.{ℕ, ◌+◌, ◌*◌, ◌/◌, ◌%◌, List, map, slice_index}
 use Rattle.lattice.specs.Lattice.{Lattice, with_cells, if_whole}
-use Rattle.tables.specs.declared.cell.CellTable.{CellTable}
+use Rattle.tables.specs.declared.table.Table.{Table}
 use Rattle.cell_map.specs.declared.map.CellMap.{CellMap}
 
-abbrev pub table_of : CellMap → CellTable
+abbrev pub table_of : CellMap → Table 4
 table_of m = m.table
 
 abbrev pub replaced : List ℕ → ℕ → ℕ

@@ -2,13 +2,13 @@
 //
 // Whoever adds a map writes an `impl Map` with
 //   - two ghost functions, `forward` and `backward`, that say what the map does to a lattice;
-//   - the proofs of the four laws below, as ghost members of their names that cite lemmas;
+//   - the proof of the four laws, as the ghost member `laws` that cites a lemma;
 //   - the methods `advance` and `retreat`, which do it.
 // `advance_by` and `retreat_by` come with a body; a map that knows a faster way may bring its own.
 // docs/MAPS.md says in words what a map owes, and specs/Maps.antt defines it.
 ghost use Rattle.std.specs.Prelude.{◌≡◌};
 ghost use Rattle.lattice.specs.Lattice.{Lattice};
-ghost use Rattle.lattice.specs.Maps.{UndoneBy, Keeps, repeated};
+ghost use Rattle.lattice.specs.Maps.{Reversible, repeated};
 ghost use Rattle.lattice.specs.Starts.{held};
 
 use crate::start::Start;
@@ -44,11 +44,6 @@ pub trait Map {
         }
     }
 
-    ghost back_undoes_forward: { (m : Self) → UndoneBy (forward m) (backward m) };
-
-    ghost forward_undoes_back: { (m : Self) → UndoneBy (backward m) (forward m) };
-
-    ghost forward_keeps: { (m : Self) → Keeps (forward m) };
-
-    ghost backward_keeps: { (m : Self) → Keeps (backward m) };
+    // The two functions undo each other, and keep sides, number of cells and limits.
+    ghost laws: { (m : Self) → Reversible (forward m) (backward m) };
 }

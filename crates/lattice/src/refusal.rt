@@ -2,25 +2,24 @@
 ghost use Rattle.std.specs.Prelude.{◌≡◌};
 ghost use Rattle.lattice.specs.Refusals.{start_number};
 
-#[derive(Clone, Copy, PartialEq, Eq, Debug)]
+use thiserror::Error;
+
+// Each cause with its number, as docs/REFUSALS.md lists it.
+#[derive(Clone, Copy, PartialEq, Eq, Debug, Error)]
 pub enum StartRefusal {
-    // A side is odd, or not in 2 to 256.
-    Side,
-    // There are more than 16,384 cells.
-    Area,
-    // The phase is neither 0 nor 1.
-    Phase,
+    #[error("a side is odd, or not in 2 to 256")]
+    Side = 1,
+    #[error("there are more than 16,384 cells")]
+    Area = 2,
+    #[error("the phase is neither 0 nor 1")]
+    Phase = 3,
 }
 
-impl StartRefusal {
-    // The number of the cause, as docs/REFUSALS.md lists it.
-    pub fn number(self) -> u8
-        ensures { result ≡ start_number self }
-    {
-        match self {
-            StartRefusal::Side => 1,
-            StartRefusal::Area => 2,
-            StartRefusal::Phase => 3,
-        }
+// The number of the cause.
+impl From<StartRefusal> for u8 {
+    ghost from_gives = { λ cause n. n ≡ start_number cause };
+
+    fn from(cause: StartRefusal) -> u8 {
+        cause as u8
     }
 }

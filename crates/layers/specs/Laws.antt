@@ -2,9 +2,9 @@
 use Rattle.std.specs.Prelude.{◌≡◌, ℕ, zero, suc, refl}
 use Rattle.std.proofs.Common.{◌∙◌, ap}
 use Rattle.lattice.specs.Lattice.{Lattice, Whole, Within, SameShape}
-use Rattle.lattice.specs.Maps.{UndoneBy, Keeps, repeated}
+use Rattle.lattice.specs.Maps.{UndoneBy, Keeps, Reversible, repeated}
 use Rattle.lattice.proofs.Wholes.{same_shape, same_shape_trans}
-use Rattle.lattice.proofs.Repeats.{repeated_within}
+use Rattle.lattice.proofs.Repeats.{repeated_within, repeated_undone}
 use Rattle.layers.specs.Layers.{one_then, between}
 
 pub then_keeps : (f g : Lattice → Lattice) → Keeps f → Keeps g → Keeps (one_then f g)
@@ -41,3 +41,39 @@ between_undone f f' b b' kf kb uf ub ub' l w =
     let w₁ = kb.within l w in
     let w₂ = kf.within (b l) w₁ in
     ap (λ m. b' (f' m)) (ub' (f (b l)) w₂) ∙ ap b' (uf (b l) w₁) ∙ ub l w
+
+-- the laws of each layer, from those of its parts
+module _ {f f' g g' : Lattice → Lattice} where
+  pub then_laws : Reversible f f' → Reversible g g' → Reversible (one_then f g) (one_then g' f')
+  then_laws a b = record {
+    back_undoes_forward = then_undone f f' g g' a.forward_keeps a.back_undoes_forward b.back_undoes_forward;
+    forward_undoes_back = then_undone g' g f' f b.backward_keeps b.forward_undoes_back a.forward_undoes_back;
+    forward_keeps = then_keeps f g a.forward_keeps b.forward_keeps;
+    backward_keeps = then_keeps g' f' b.backward_keeps a.backward_keeps;
+  }
+
+  -- f is seen through g
+  pub between_laws : Reversible f f' → Reversible g g' → Reversible (between f g g') (between f' g g')
+  between_laws a b = record {
+    back_undoes_forward = between_undone f f' g g' a.forward_keeps b.forward_keeps a.back_undoes_forward b.back_undoes_forward b.forward_undoes_back;
+    forward_undoes_back = between_undone f' f g g' a.backward_keeps b.forward_keeps a.forward_undoes_back b.back_undoes_forward b.forward_undoes_back;
+    forward_keeps = between_keeps f g g' a.forward_keeps b.forward_keeps b.backward_keeps;
+    backward_keeps = between_keeps f' g g' a.backward_keeps b.forward_keeps b.backward_keeps;
+  }
+
+module _ {f f' : Lattice → Lattice} where
+  pub reverse_laws : Reversible f f' → Reversible f' f
+  reverse_laws a = record {
+    back_undoes_forward = a.forward_undoes_back;
+    forward_undoes_back = a.back_undoes_forward;
+    forward_keeps = a.backward_keeps;
+    backward_keeps = a.forward_keeps;
+  }
+
+  pub repeated_laws : (n : ℕ) → Reversible f f' → Reversible (repeated n f) (repeated n f')
+  repeated_laws n a = record {
+    back_undoes_forward = repeated_undone f f' a.forward_keeps a.back_undoes_forward n;
+    forward_undoes_back = repeated_undone f' f a.backward_keeps a.forward_undoes_back n;
+    forward_keeps = repeated_keeps f a.forward_keeps n;
+    backward_keeps = repeated_keeps f' a.backward_keeps n;
+  }

@@ -2,19 +2,20 @@
 ghost use Rattle.std.specs.Prelude.{◌≡◌};
 ghost use Rattle.layers.specs.Refusals.{count_number};
 
-#[derive(Clone, Copy, PartialEq, Eq, Debug)]
+use thiserror::Error;
+
+// Each cause with its number, as docs/REFUSALS.md lists it.
+#[derive(Clone, Copy, PartialEq, Eq, Debug, Error)]
 pub enum CountRefusal {
-    // It is above 1,000.
-    TooLarge,
+    #[error("it is above 1,000")]
+    TooLarge = 8,
 }
 
-impl CountRefusal {
-    // The number of the cause, as docs/REFUSALS.md lists it.
-    pub fn number(self) -> u8
-        ensures { result ≡ count_number self }
-    {
-        match self {
-            CountRefusal::TooLarge => 8,
-        }
+// The number of the cause.
+impl From<CountRefusal> for u8 {
+    ghost from_gives = { λ cause n. n ≡ count_number cause };
+
+    fn from(cause: CountRefusal) -> u8 {
+        cause as u8
     }
 }

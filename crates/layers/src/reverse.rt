@@ -1,6 +1,6 @@
 // A map with forward and back exchanged.
 ghost use Rattle.std.specs.Prelude.{◌≡◌};
-ghost use Rattle.std.proofs.Common.{rules};
+ghost use Rattle.layers.specs.Laws.{reverse_laws};
 
 use lattice::map::Map;
 use lattice::start::Start;
@@ -23,13 +23,7 @@ impl<A: Map> Map for Reverse<A> {
 
     ghost backward = { λ m. A.Map.forward m.inner };
 
-    ghost back_undoes_forward = { Prim.search rules };
-
-    ghost forward_undoes_back = { Prim.search rules };
-
-    ghost forward_keeps = { Prim.search rules };
-
-    ghost backward_keeps = { Prim.search rules };
+    ghost laws = { λ m. reverse_laws (A.Map.laws m.inner) };
 
     fn advance(&self, start: &mut Start, cells: &mut [u8]) {
         self.inner.retreat(start, cells);

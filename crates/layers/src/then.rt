@@ -1,7 +1,7 @@
 // One map, and then another.
 ghost use Rattle.std.specs.Prelude.{◌≡◌};
 ghost use Rattle.layers.specs.Layers.{one_then};
-ghost use Rattle.layers.specs.Laws.{then_undone, then_keeps};
+ghost use Rattle.layers.specs.Laws.{then_laws};
 
 use lattice::map::Map;
 use lattice::start::Start;
@@ -26,17 +26,7 @@ impl<A: Map, B: Map> Map for Then<A, B> {
 
     ghost backward = { λ m. one_then (B.Map.backward m.second) (A.Map.backward m.first) };
 
-    ghost back_undoes_forward = { λ m.
-        then_undone (A.Map.forward m.first) (A.Map.backward m.first) (B.Map.forward m.second) (B.Map.backward m.second)
-        (A.Map.forward_keeps m.first) (A.Map.back_undoes_forward m.first) (B.Map.back_undoes_forward m.second) };
-
-    ghost forward_undoes_back = { λ m.
-        then_undone (B.Map.backward m.second) (B.Map.forward m.second) (A.Map.backward m.first) (A.Map.forward m.first)
-        (B.Map.backward_keeps m.second) (B.Map.forward_undoes_back m.second) (A.Map.forward_undoes_back m.first) };
-
-    ghost forward_keeps = { λ m. then_keeps (A.Map.forward m.first) (B.Map.forward m.second) (A.Map.forward_keeps m.first) (B.Map.forward_keeps m.second) };
-
-    ghost backward_keeps = { λ m. then_keeps (B.Map.backward m.second) (A.Map.backward m.first) (B.Map.backward_keeps m.second) (A.Map.backward_keeps m.first) };
+    ghost laws = { λ m. then_laws (A.Map.laws m.first) (B.Map.laws m.second) };
 
     fn advance(&self, start: &mut Start, cells: &mut [u8]) {
         self.first.advance(start, cells);

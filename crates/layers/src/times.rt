@@ -2,8 +2,7 @@
 ghost use Rattle.std.specs.Prelude.{◌≡◌};
 ghost use Rattle.lattice.specs.Maps.{repeated};
 ghost use Rattle.layers.specs.Counts.{number_of};
-ghost use Rattle.lattice.proofs.Repeats.{repeated_undone};
-ghost use Rattle.layers.specs.Laws.{repeated_keeps};
+ghost use Rattle.layers.specs.Laws.{repeated_laws};
 
 use crate::count::Count;
 use lattice::map::Map;
@@ -29,13 +28,7 @@ impl<A: Map> Map for Times<A> {
 
     ghost backward = { λ m. repeated (number_of m.count) (A.Map.backward m.inner) };
 
-    ghost back_undoes_forward = { λ m. repeated_undone (A.Map.forward m.inner) (A.Map.backward m.inner) (A.Map.forward_keeps m.inner) (A.Map.back_undoes_forward m.inner) m.count.number };
-
-    ghost forward_undoes_back = { λ m. repeated_undone (A.Map.backward m.inner) (A.Map.forward m.inner) (A.Map.backward_keeps m.inner) (A.Map.forward_undoes_back m.inner) m.count.number };
-
-    ghost forward_keeps = { λ m. repeated_keeps (A.Map.forward m.inner) (A.Map.forward_keeps m.inner) m.count.number };
-
-    ghost backward_keeps = { λ m. repeated_keeps (A.Map.backward m.inner) (A.Map.backward_keeps m.inner) m.count.number };
+    ghost laws = { λ m. repeated_laws m.count.number (A.Map.laws m.inner) };
 
     fn advance(&self, start: &mut Start, cells: &mut [u8]) {
         self.inner.advance_by(self.count.number(), start, cells);

@@ -1,5 +1,5 @@
 -- Rules that answer the same have the same lift. Assumes nothing.
-use Rattle.std.proofs.Common.{◌≡◌, ℕ, ◌<◌, List, arith}
+use Rattle.std.proofs.Common.{◌≡◌, ℕ, arith}
 use Rattle.lattice.specs.Cells.{cell}
 use Rattle.lattice.specs.EveryCell.{every_cell}
 use Rattle.rules.specs.Rules.{SameAnswers}
@@ -7,16 +7,9 @@ use Rattle.lift.specs.Maps.{lift_forward, lift_backward}
 use Rattle.lift.specs.Moments.{xored, exchanged, presents, pasts}
 use Rattle.lift.specs.Neighbours.{around}
 
--- nine bits make a neighbourhood number
-presents_number : (w h : ℕ) (cs : List ℕ) (x y : ℕ) → around w h (presents w cs) x y < 512
-presents_number w h cs x y = omega arith
-
-pasts_number : (w h : ℕ) (cs : List ℕ) (x y : ℕ) → around w h (pasts w cs) x y < 512
-pasts_number w h cs x y = omega arith
-
 module _ (f g : ℕ → ℕ) (same : SameAnswers f g) where
   pub forward_same : lift_forward f ≡ lift_forward g
-  forward_same = λ i. every_cell (λ w h cs x y. exchanged (xored (cell w cs x y) (same (around w h (presents w cs) x y) (presents_number w h cs x y) i)))
+  forward_same = λ i. every_cell (λ w h cs x y. exchanged (xored (cell w cs x y) (same (around w h (presents w cs) x y) (omega arith) i)))
 
   pub backward_same : lift_backward f ≡ lift_backward g
-  backward_same = λ i. every_cell (λ w h cs x y. xored (exchanged (cell w cs x y)) (same (around w h (pasts w cs) x y) (pasts_number w h cs x y) i))
+  backward_same = λ i. every_cell (λ w h cs x y. xored (exchanged (cell w cs x y)) (same (around w h (pasts w cs) x y) (omega arith) i))

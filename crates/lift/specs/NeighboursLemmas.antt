@@ -1,5 +1,5 @@
 -- Neighbourhood numbers. Assumes nothing.
-use Rattle.std.specs.Prelude.{◌≡◌, ℕ, ◌+◌, ◌*◌, ◌%◌, ◌<◌, List, refl}
+use Rattle.std.specs.Prelude.{◌≡◌, ℕ, ◌+◌, ◌*◌, ◌%◌, ◌<◌, List}
 use Rattle.std.proofs.Common.{arith}
 use Rattle.lattice.specs.Limits.{Side}
 use Rattle.lattice.specs.Torus.{after, before}
@@ -15,20 +15,8 @@ around_same w h wide high p q same x y x< y< =
     let e< = after_inside w wide x x< in
     let n< = before_inside h high y y< in
     let s< = after_inside h high y y< in
-    rw (
-      same (before w x) (before h y) w< n<,
-      same x (before h y) x< n<,
-      same (after w x) (before h y) e< n<,
-      same (before w x) y w< y<,
-      same x y x< y<,
-      same (after w x) y e< y<,
-      same (before w x) (after h y) w< s<,
-      same x (after h y) x< s<,
-      same (after w x) (after h y) e< s<,
-    ) refl
+    simp same
 
 -- three columns make the number of the cell in the middle
-pub around_columns : (w h : ℕ) (cs : List ℕ) (x y west here east : ℕ)
-    → west ≡ column cs (before h y * w) (y * w) (after h y * w) (before w x) → here ≡ column cs (before h y * w) (y * w) (after h y * w) x → east ≡ column cs (before h y * w) (y * w) (after h y * w) (after w x)
-    → (west + 2 * here + 4 * east) % 512 ≡ around w h (presents w cs) x y
+pub around_columns : (w h : ℕ) (cs : List ℕ) (x y west here east : ℕ) → west ≡ column w h cs (before w x) y → here ≡ column w h cs x y → east ≡ column w h cs (after w x) y → (west + 2 * here + 4 * east) % 512 ≡ around w h (presents w cs) x y
 around_columns w h cs x y west here east ew eh ee = omega arith

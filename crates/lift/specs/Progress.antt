@@ -2,9 +2,10 @@
 -- alone; what the map means is in Maps.antt.
 --     answered f w h cs x y              the cell of column x and row y with the answer to its neighbourhood XORed into its past
 --     Answered f w h a b old new         so are the cells at the places from a to below b, and no other
---     column cs north here south x       the presents at column x of three rows, which begin at the places north, here and south, as they count in the west of a neighbourhood
-use Rattle.std.specs.Prelude.{◌≡◌, ℕ, ◌+◌, ◌*◌, ◌<◌, ◌≤◌, ◌⊎◌, List, length, slice_index}
-use Rattle.lattice.specs.Cells.{cell, present}
+--     column w h cs x y                  the presents of column x above, in and below row y, as they count in the west of a neighbourhood
+use Rattle.std.specs.Prelude.{◌≡◌, ℕ, ◌+◌, ◌*◌, ◌<◌, ◌≤◌, ◌⊎◌, List, length}
+use Rattle.lattice.specs.Cells.{cell}
+use Rattle.lattice.specs.Torus.{after, before}
 use Rattle.lift.specs.Moments.{xored, presents}
 use Rattle.lift.specs.Neighbours.{around}
 
@@ -16,5 +17,5 @@ pub record Answered (f : ℕ → ℕ) (w h a b : ℕ) (old new : List ℕ) : Typ
   pub done : (x y : ℕ) → x < w → y < h → a ≤ y * w + x → y * w + x < b → cell w new x y ≡ answered f w h old x y
   pub rest : (x y : ℕ) → x < w → y < h → (y * w + x < a) ⊎ (b ≤ y * w + x) → cell w new x y ≡ cell w old x y
 
-abbrev pub column : List ℕ → ℕ → ℕ → ℕ → ℕ → ℕ
-column cs north here south x = present (slice_index cs (north + x)) + 8 * present (slice_index cs (here + x)) + 64 * present (slice_index cs (south + x))
+abbrev pub column : ℕ → ℕ → List ℕ → ℕ → ℕ → ℕ
+column w h cs x y = presents w cs x (before h y) + 8 * presents w cs x y + 64 * presents w cs x (after h y)

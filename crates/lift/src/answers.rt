@@ -1,7 +1,8 @@
 // XORing a rule's answers into the pasts of all cells in place. Presents stay, so the order of the cells does not matter.
-ghost use Rattle.std.specs.Prelude.{◌≡◌, ◌+◌, ◌*◌, ◌<◌, length};
-ghost use Rattle.lattice.specs.Cells.{by_place};
-ghost use Rattle.lattice.specs.Starts.{width_of, height_of};
+ghost use Rattle.std.specs.Prelude.{◌≡◌, ◌+◌, ◌*◌, ◌<◌};
+ghost use Rattle.lattice.specs.EveryCell.{each_cell};
+ghost use Rattle.lattice.specs.Lattice.{Whole};
+ghost use Rattle.lattice.specs.Starts.{width_of, height_of, held};
 ghost use Rattle.rules.specs.Neighbourhoods.{number_of};
 ghost use Rattle.lift.specs.Moments.{xored};
 ghost use Rattle.lift.specs.Progress.{answered, Answered};
@@ -22,9 +23,9 @@ fn answer_cell<R: LocalRule>(rule: &R, around: Neighbourhood, cell: u8) -> u8
 
 // The cells of row y. The columns to the west and of the cell itself are kept from the cells before.
 fn answer_row<R: LocalRule>(rule: &R, start: &Start, cells: &mut [u8], y: usize)
-    requires whole { length cells.old ≡ width_of start.now * height_of start.now }
+    requires whole { Whole (held start.now cells.old) }
     requires row { y < height_of start.now }
-    ensures { Answered (R.answer rule.now) (width_of start.now) (height_of start.now) (y * width_of start.now) (y * width_of start.now + width_of start.now) cells.old cells.new }
+    ensures { Answered (R.answer rule.now) (width_of start.now) (height_of start.now) (y * width_of start.now) ((y + 1) * width_of start.now) cells.old cells.new }
 {
     let width = start.width();
     let band = Band::around(start, y);
@@ -42,8 +43,8 @@ fn answer_row<R: LocalRule>(rule: &R, start: &Start, cells: &mut [u8], y: usize)
 
 // All cells.
 pub(crate) fn answer_cells<R: LocalRule>(rule: &R, start: &Start, cells: &mut [u8])
-    requires whole { length cells.old ≡ width_of start.now * height_of start.now }
-    ensures { cells.new ≡ by_place (width_of start.now) (height_of start.now) (answered (R.answer rule.now) (width_of start.now) (height_of start.now) cells.old) }
+    requires whole { Whole (held start.now cells.old) }
+    ensures { cells.new ≡ each_cell (answered (R.answer rule.now)) (held start.now cells.old) }
 {
     for y in 0..start.height() {
         answer_row(rule, start, cells, y);

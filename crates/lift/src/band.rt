@@ -1,30 +1,38 @@
 // Three neighbouring rows, and the presents that they have in a column.
-ghost use Rattle.std.specs.Prelude.{◌≡◌, ◌+◌, ◌*◌, ◌<◌, length};
-ghost use Rattle.lattice.specs.Starts.{width_of, height_of};
+ghost use Rattle.std.specs.Prelude.{◌≡◌, ◌*◌, ◌<◌};
+ghost use Rattle.lattice.specs.Lattice.{Whole};
+ghost use Rattle.lattice.specs.Starts.{width_of, height_of, held};
 ghost use Rattle.lattice.specs.Torus.{after, before};
 ghost use Rattle.lift.specs.Progress.{column};
 
 use crate::torus::{next, previous};
 use lattice::start::Start;
 
-// The places where the row in the middle and the rows above and below it begin.
+// Row y with the rows above and below it: the places where the three begin.
 #[derive(Clone, Copy)]
 pub(crate) struct Band {
-    pub(crate) north: usize,
+    start: Start,
+    y: usize,
+    north: usize,
     pub(crate) here: usize,
-    pub(crate) south: usize,
+    south: usize,
+    ghost inside: { y < height_of start },
+    ghost above: { north ≡ before (height_of start) y * width_of start },
+    ghost row: { here ≡ y * width_of start },
+    ghost below: { south ≡ after (height_of start) y * width_of start },
 }
 
 impl Band {
     // The rows at and around row y.
     pub(crate) fn around(start: &Start, y: usize) -> Band
         requires row { y < height_of start.now }
-        ensures north { result.north ≡ before (height_of start.now) y * width_of start.now }
-        ensures here { result.here ≡ y * width_of start.now }
-        ensures south { result.south ≡ after (height_of start.now) y * width_of start.now }
+        ensures start { result.start ≡ start.now }
+        ensures row { result.y ≡ y }
     {
         let (width, height) = (start.width(), start.height());
         Band {
+            start: *start,
+            y,
             north: previous(height, y) * width,
             here: y * width,
             south: next(height, y) * width,
@@ -33,8 +41,9 @@ impl Band {
 
     // The presents of column x, as they count in the west of a neighbourhood.
     pub(crate) fn column(&self, cells: &[u8], x: usize) -> u16
-        requires { (self.now.north + x < length cells.now) × (self.now.here + x < length cells.now) × (self.now.south + x < length cells.now) }
-        ensures { result ≡ column cells.now self.now.north self.now.here self.now.south x }
+        requires whole { Whole (held self.now.start cells.now) }
+        requires inside { x < width_of self.now.start }
+        ensures { result ≡ column (width_of self.now.start) (height_of self.now.start) cells.now x self.now.y }
     {
         let north = u16::from(cells[self.north + x] % 2);
         let here = u16::from(cells[self.here + x] % 2);

@@ -3,7 +3,7 @@ ghost use Rattle.std.specs.Prelude.{◌≡◌};
 ghost use Rattle.lattice.specs.Cells.{OnlyBelow};
 ghost use Rattle.lattice.specs.Starts.{held};
 ghost use Rattle.lift.specs.Maps.{lift_forward, lift_backward};
-ghost use Rattle.lift.specs.Laws.{forward_undone, backward_undone, keeps_forward, keeps_backward};
+ghost use Rattle.lift.specs.Laws.{lift_laws};
 
 use crate::passes::{backward_cells, forward_cells};
 use lattice::map::Map;
@@ -28,13 +28,7 @@ impl<R: LocalRule> Map for Lift<R> {
 
     ghost backward = { λ m. lift_backward (R.LocalRule.answer m.rule) };
 
-    ghost back_undoes_forward = { λ m. forward_undone (R.LocalRule.answer m.rule) };
-
-    ghost forward_undoes_back = { λ m. backward_undone (R.LocalRule.answer m.rule) };
-
-    ghost forward_keeps = { λ m. keeps_forward (R.LocalRule.answer m.rule) };
-
-    ghost backward_keeps = { λ m. keeps_backward (R.LocalRule.answer m.rule) };
+    ghost laws = { λ m. lift_laws (R.LocalRule.answer m.rule) };
 
     // Of a cell, only present and past change; the phase stays.
     fn advance(&self, start: &mut Start, cells: &mut [u8])

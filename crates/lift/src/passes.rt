@@ -1,7 +1,9 @@
 // The two moves of the lift, two passes over the cells each.
-ghost use Rattle.std.specs.Prelude.{◌≡◌, ◌*◌, length};
-ghost use Rattle.lattice.specs.Cells.{OnlyBelow, by_place};
-ghost use Rattle.lattice.specs.Starts.{width_of, height_of};
+ghost use Rattle.std.specs.Prelude.{◌≡◌};
+ghost use Rattle.lattice.specs.Cells.{OnlyBelow};
+ghost use Rattle.lattice.specs.EveryCell.{each_cell};
+ghost use Rattle.lattice.specs.Lattice.{Whole};
+ghost use Rattle.lattice.specs.Starts.{held};
 ghost use Rattle.lift.specs.Maps.{lifted, unlifted};
 
 use crate::answers::answer_cells;
@@ -10,8 +12,8 @@ use lattice::start::Start;
 use rules::rule::LocalRule;
 
 pub(crate) fn forward_cells<R: LocalRule>(rule: &R, start: &Start, cells: &mut [u8])
-    requires whole { length cells.old ≡ width_of start.now * height_of start.now }
-    ensures cells { cells.new ≡ by_place (width_of start.now) (height_of start.now) (lifted (R.answer rule.now) (width_of start.now) (height_of start.now) cells.old) }
+    requires whole { Whole (held start.now cells.old) }
+    ensures cells { cells.new ≡ each_cell (lifted (R.answer rule.now)) (held start.now cells.old) }
     ensures low { OnlyBelow 4 cells.old cells.new }
 {
     answer_cells(rule, start, cells);
@@ -19,8 +21,8 @@ pub(crate) fn forward_cells<R: LocalRule>(rule: &R, start: &Start, cells: &mut [
 }
 
 pub(crate) fn backward_cells<R: LocalRule>(rule: &R, start: &Start, cells: &mut [u8])
-    requires whole { length cells.old ≡ width_of start.now * height_of start.now }
-    ensures cells { cells.new ≡ by_place (width_of start.now) (height_of start.now) (unlifted (R.answer rule.now) (width_of start.now) (height_of start.now) cells.old) }
+    requires whole { Whole (held start.now cells.old) }
+    ensures cells { cells.new ≡ each_cell (unlifted (R.answer rule.now)) (held start.now cells.old) }
     ensures low { OnlyBelow 4 cells.old cells.new }
 {
     exchange_cells(cells);

@@ -4,14 +4,16 @@ ghost use Rattle.lattice.specs.Torus.{after, before};
 
 pub(crate) fn next(side: usize, x: usize) -> usize
     requires inside { x < side }
-    ensures { result ≡ after side x }
+    ensures after { result ≡ after side x }
+    ensures inside { result < side }
 {
     if x + 1 == side { 0 } else { x + 1 }
 }
 
 pub(crate) fn previous(side: usize, x: usize) -> usize
     requires inside { x < side }
-    ensures { result ≡ before side x }
+    ensures before { result ≡ before side x }
+    ensures inside { result < side }
 {
     if x == 0 { side - 1 } else { x - 1 }
 }

@@ -8,6 +8,8 @@ mod local_rules;
 #[cfg(test)]
 mod named;
 #[cfg(test)]
-mod samples;
+mod outcomes;
+#[cfg(test)]
+mod runs;
 #[cfg(test)]
 mod stacks;

@@ -1,20 +1,14 @@
 // The lift, of a rule that counts and of one without symmetry.
-use crate::samples::*;
+use crate::runs::{Run, check_run, crooked};
 use lattice::map::Map;
+use lattice::start::Start;
 use lift::map::Lift;
 use rules::count::CountRule;
 use std::test::Fail;
 
-fn counted() -> Result<Lift<CountRule>, Fail> {
-    match CountRule::new(74, 300) {
-        Ok(rule) => Ok(Lift::new(rule)),
-        Err(_) => Err(Fail::new("the masks are refused")),
-    }
-}
-
 #[test]
 fn a_rule_that_counts(rt: HostRuntime) -> Result<(), Fail> {
-    let map = counted()?;
+    let map = Lift::new(CountRule::new(74, 300)?);
     check_run(
         &rt,
         &map,
@@ -39,7 +33,7 @@ fn a_rule_that_counts(rt: HostRuntime) -> Result<(), Fail> {
 
 #[test]
 fn a_rule_without_symmetry(rt: HostRuntime) -> Result<(), Fail> {
-    let map = crooked(&rt);
+    let map = crooked()?;
     check_run(
         &rt,
         &map,
@@ -65,8 +59,8 @@ fn a_rule_without_symmetry(rt: HostRuntime) -> Result<(), Fail> {
 // Here a cell has some of its neighbours on both sides.
 #[test]
 fn on_a_side_of_two(rt: HostRuntime) -> Result<(), Fail> {
-    let map = crooked(&rt);
-    let mut held = start(2, 2, 0)?;
+    let map = crooked()?;
+    let mut held = Start::new(2, 2, 0)?;
     let mut small = [0xf1, 0x02, 0x10, 0x21];
     map.advance(&mut held, &mut small);
     assert!(rt; small == [0xf2, 0x00, 0x11, 0x22]);
@@ -74,7 +68,7 @@ fn on_a_side_of_two(rt: HostRuntime) -> Result<(), Fail> {
     assert!(rt; small == [0xf2, 0x01, 0x11, 0x20]);
     map.retreat_by(4, &mut held, &mut small);
     assert!(rt; small == [0xf0, 0x01, 0x10, 0x22]);
-    let mut held = start(2, 4, 0)?;
+    let mut held = Start::new(2, 4, 0)?;
     let mut narrow = [0xf1, 0x02, 0x10, 0x21, 0x03, 0x07, 0x55, 0xaa];
     map.advance(&mut held, &mut narrow);
     assert!(rt; narrow == [0xf3, 0x01, 0x11, 0x23, 0x03, 0x07, 0x57, 0xa8]);
@@ -87,8 +81,8 @@ fn on_a_side_of_two(rt: HostRuntime) -> Result<(), Fail> {
 
 #[test]
 fn cells_one_short_and_one_long_stay(rt: HostRuntime) -> Result<(), Fail> {
-    let map = crooked(&rt);
-    let mut held = start(2, 2, 1)?;
+    let map = crooked()?;
+    let mut held = Start::new(2, 2, 1)?;
     let mut short = [1, 2, 3];
     let mut long = [1, 0, 3, 2, 1];
     map.advance(&mut held, &mut short);

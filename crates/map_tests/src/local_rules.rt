@@ -6,18 +6,9 @@ use rules::rule::LocalRule;
 use rules::table::TableRule;
 use std::test::Fail;
 
-fn counting(birth: u32, survival: u32) -> Result<CountRule, Fail> {
-    match CountRule::new(birth, survival) {
-        Ok(rule) => Ok(rule),
-        Err(_) => Err(Fail::new("the masks are refused")),
-    }
-}
-
-fn mask_refusal(birth: u32, survival: u32) -> u8 {
-    match CountRule::new(birth, survival) {
-        Ok(_) => 0,
-        Err(cause) => cause.number(),
-    }
+// The number of the cause, or `None` where the rule is made.
+fn mask_refusal(birth: u32, survival: u32) -> Option<u8> {
+    CountRule::new(birth, survival).err().map(u8::from)
 }
 
 #[test]
@@ -35,22 +26,22 @@ fn neighbourhoods_have_nine_bits(rt: HostRuntime) {
 
 #[test]
 fn masks_above_511_are_refused(rt: HostRuntime) {
-    assert_eq!(rt; mask_refusal(511, 511), 0);
-    assert_eq!(rt; mask_refusal(512, 0), 7);
-    assert_eq!(rt; mask_refusal(0, 512), 7);
-    assert_eq!(rt; mask_refusal(4_294_967_295, 4_294_967_295), 7);
+    assert_eq!(rt; mask_refusal(511, 511), None);
+    assert_eq!(rt; mask_refusal(512, 0), Some(7));
+    assert_eq!(rt; mask_refusal(0, 512), Some(7));
+    assert_eq!(rt; mask_refusal(4_294_967_295, 4_294_967_295), Some(7));
 }
 
 #[test]
 fn masks_are_read_by_the_count_of_neighbours(rt: HostRuntime) -> Result<(), Fail> {
-    let life = counting(8, 12)?;
+    let life = CountRule::new(8, 12)?;
     assert_eq!(rt; life.answer_to(Neighbourhood::from_bits(0b000_000_111)), 1);
     assert_eq!(rt; life.answer_to(Neighbourhood::from_bits(0b000_000_110)), 0);
     assert_eq!(rt; life.answer_to(Neighbourhood::from_bits(0b000_010_110)), 1);
     assert_eq!(rt; life.answer_to(Neighbourhood::from_bits(0b110_010_001)), 1);
     assert_eq!(rt; life.answer_to(Neighbourhood::from_bits(0b110_010_011)), 0);
     assert_eq!(rt; life.answer_to(Neighbourhood::from_bits(0b000_010_000)), 0);
-    let full = counting(256, 0)?;
+    let full = CountRule::new(256, 0)?;
     assert_eq!(rt; full.answer_to(Neighbourhood::from_bits(0b111_101_111)), 1);
     assert_eq!(rt; full.answer_to(Neighbourhood::from_bits(0b111_111_111)), 0);
     assert_eq!(rt; full.answer_to(Neighbourhood::from_bits(0b111_101_110)), 0);
@@ -59,24 +50,22 @@ fn masks_are_read_by_the_count_of_neighbours(rt: HostRuntime) -> Result<(), Fail
 
 #[test]
 fn the_table_of_life_answers_as_its_masks_do(rt: HostRuntime) -> Result<(), Fail> {
-    let (table, masks) = (TableRule::life(), counting(8, 12)?);
-    let mut ones = 0u8;
-    for n in 0..512u16 {
+    let (table, masks) = (TableRule::life(), CountRule::new(8, 12)?);
+    for n in 0..512 {
         let around = Neighbourhood::from_bits(n);
-        let answer = table.answer_to(around);
-        assert_eq!(rt; answer, masks.answer_to(around));
-        ones = ones.wrapping_add(answer);
+        assert_eq!(rt; table.answer_to(around), masks.answer_to(around));
     }
+    let ones = (0..512)
+        .filter(|&n| table.answer_to(Neighbourhood::from_bits(n)) == 1)
+        .count();
     // 56 for an absent centre with 3 of 8, and 28 + 56 for a present one with 2 or 3 of 8
     assert_eq!(rt; ones, 140);
     Ok(())
 }
 
-fn number(answer: Result<(), RuleRefusal>) -> u8 {
-    match answer {
-        Ok(()) => 0,
-        Err(cause) => cause.number(),
-    }
+// The number of the cause, or `None` where the table is filled.
+fn fill_refusal(answer: Result<(), RuleRefusal>) -> Option<u8> {
+    answer.err().map(u8::from)
 }
 
 #[test]
@@ -85,15 +74,15 @@ fn fills_of_a_rule_table(rt: HostRuntime) {
     assert!(rt; *rule.entries() == [0; 512]);
     let mut entries = [0; 513];
     entries[511] = 1;
-    assert_eq!(rt; number(rule.fill(&entries[0..512])), 0);
+    assert_eq!(rt; fill_refusal(rule.fill(&entries[0..512])), None);
     assert_eq!(rt; rule.answer_to(Neighbourhood::from_bits(511)), 1);
     assert_eq!(rt; rule.answer_to(Neighbourhood::from_bits(510)), 0);
-    assert_eq!(rt; number(rule.fill(&[1; 512])), 0);
+    assert_eq!(rt; fill_refusal(rule.fill(&[1; 512])), None);
     entries[511] = 2;
-    assert_eq!(rt; number(rule.fill(&entries[0..512])), 5);
-    assert_eq!(rt; number(rule.fill(&entries[0..511])), 4);
-    assert_eq!(rt; number(rule.fill(&entries)), 4);
-    assert_eq!(rt; number(rule.fill(&[])), 4);
-    assert_eq!(rt; number(rule.fill(&[255; 512])), 5);
+    assert_eq!(rt; fill_refusal(rule.fill(&entries[0..512])), Some(5));
+    assert_eq!(rt; fill_refusal(rule.fill(&entries[0..511])), Some(4));
+    assert_eq!(rt; fill_refusal(rule.fill(&entries)), Some(4));
+    assert_eq!(rt; fill_refusal(rule.fill(&[])), Some(4));
+    assert_eq!(rt; fill_refusal(rule.fill(&[255; 512])), Some(5));
     assert!(rt; *rule.entries() == [1; 512]);
 }

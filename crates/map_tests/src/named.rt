@@ -1,6 +1,7 @@
 // The named maps.
-use crate::samples::*;
+use crate::runs::{Run, check_run};
 use lattice::map::Map;
+use lattice::start::Start;
 use named_maps::blocks::{bbm, critters, tron};
 use named_maps::examples::examples_come_out;
 use named_maps::life2::life2;
@@ -60,20 +61,15 @@ fn a_mixed_stack(rt: HostRuntime) -> Result<(), Fail> {
 }
 
 // A block of four cells, each with these bits.
-fn block(bits: u8) -> [u8; 16] {
-    let mut cells = [0; 16];
-    cells[0] = bits;
-    cells[1] = bits;
-    cells[4] = bits;
-    cells[5] = bits;
-    cells
+fn block(bits: u8) -> [[u8; 4]; 4] {
+    [[bits, bits, 0, 0], [bits, bits, 0, 0], [0; 4], [0; 4]]
 }
 
 // The block of present cells after so many moves; the phase stays.
-fn block_after(rt: &impl Abort, steps: u32, phase: u32) -> Result<[u8; 16], Fail> {
-    let mut held = start(4, 4, phase)?;
+fn block_after(rt: &impl Abort, steps: u32, phase: u32) -> Result<[[u8; 4]; 4], Fail> {
+    let mut held = Start::new(4, 4, phase)?;
     let mut cells = block(1);
-    life2().advance_by(steps, &mut held, &mut cells);
+    life2().advance_by(steps, &mut held, cells.as_flattened_mut());
     assert_eq!(rt; u32::from(held.phase()), phase);
     Ok(cells)
 }
@@ -94,12 +90,12 @@ fn worked_examples_run(rt: HostRuntime) {
 }
 
 // Two by two cells after one move forward and after one back. Both turn the phase.
-fn moved<M: Map>(rt: &impl Abort, map: &M, cells: [u8; 4]) -> Result<([u8; 4], [u8; 4]), Fail> {
+fn moved(rt: &impl Abort, map: &impl Map, cells: [u8; 4]) -> Result<([u8; 4], [u8; 4]), Fail> {
     let (mut ahead, mut behind) = (cells, cells);
-    let mut held = start(2, 2, 0)?;
+    let mut held = Start::new(2, 2, 0)?;
     map.advance(&mut held, &mut ahead);
     assert_eq!(rt; held.phase(), 1);
-    held = start(2, 2, 0)?;
+    held = Start::new(2, 2, 0)?;
     map.retreat(&mut held, &mut behind);
     assert_eq!(rt; held.phase(), 1);
     Ok((ahead, behind))

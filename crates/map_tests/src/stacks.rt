@@ -1,6 +1,7 @@
 // The layers, over maps without symmetry.
-use crate::samples::*;
+use crate::runs::{Run, SAMPLE, cells_of, check_run, crooked, cycle, lopsided};
 use lattice::map::Map;
+use lattice::start::Start;
 use layers::conjugate::Conjugate;
 use layers::count::Count;
 use layers::reverse::Reverse;
@@ -8,16 +9,9 @@ use layers::then::Then;
 use layers::times::Times;
 use std::test::Fail;
 
-fn count(number: u32) -> Result<Count, Fail> {
-    match Count::new(number) {
-        Ok(count) => Ok(count),
-        Err(_) => Err(Fail::new("the count is refused")),
-    }
-}
-
 #[test]
 fn one_map_and_then_another(rt: HostRuntime) -> Result<(), Fail> {
-    let map = Then::new(lopsided(&rt), crooked(&rt));
+    let map = Then::new(lopsided()?, crooked()?);
     check_run(
         &rt,
         &map,
@@ -42,7 +36,7 @@ fn one_map_and_then_another(rt: HostRuntime) -> Result<(), Fail> {
 
 #[test]
 fn the_reverse_of_a_stack(rt: HostRuntime) -> Result<(), Fail> {
-    let map = Reverse::new(Then::new(lopsided(&rt), crooked(&rt)));
+    let map = Reverse::new(Then::new(lopsided()?, crooked()?));
     check_run(
         &rt,
         &map,
@@ -67,7 +61,7 @@ fn the_reverse_of_a_stack(rt: HostRuntime) -> Result<(), Fail> {
 
 #[test]
 fn a_map_seen_through_another(rt: HostRuntime) -> Result<(), Fail> {
-    let map = Conjugate::new(crooked(&rt), cycle(&rt));
+    let map = Conjugate::new(crooked()?, cycle()?);
     check_run(
         &rt,
         &map,
@@ -92,31 +86,26 @@ fn a_map_seen_through_another(rt: HostRuntime) -> Result<(), Fail> {
 
 #[test]
 fn three_times_and_no_time(rt: HostRuntime) -> Result<(), Fail> {
-    let then = Then::new(lopsided(&rt), crooked(&rt));
-    let mut held = start(4, 4, 0)?;
-    let mut cells = flat(SAMPLE);
-    Times::new(then, count(3)?).advance(&mut held, &mut cells);
-    assert!(rt; cells == flat([0xf202040b, 0x11214382, 0x03070cfd, 0x57ab59a6]));
+    let then = Then::new(lopsided()?, crooked()?);
+    let mut held = Start::new(4, 4, 0)?;
+    let mut cells = cells_of(SAMPLE);
+    Times::new(then, Count::new(3)?).advance(&mut held, cells.as_flattened_mut());
+    assert!(rt; cells == cells_of([0xf202040b, 0x11214382, 0x03070cfd, 0x57ab59a6]));
     assert_eq!(rt; held.phase(), 1);
-    Times::new(then, count(0)?).advance(&mut held, &mut cells);
-    assert!(rt; cells == flat([0xf202040b, 0x11214382, 0x03070cfd, 0x57ab59a6]));
+    Times::new(then, Count::new(0)?).advance(&mut held, cells.as_flattened_mut());
+    assert!(rt; cells == cells_of([0xf202040b, 0x11214382, 0x03070cfd, 0x57ab59a6]));
     assert_eq!(rt; held.phase(), 1);
-    Times::new(then, count(0)?).retreat(&mut held, &mut cells);
-    Times::new(then, count(3)?).retreat(&mut held, &mut cells);
-    assert!(rt; cells == flat(SAMPLE));
+    Times::new(then, Count::new(0)?).retreat(&mut held, cells.as_flattened_mut());
+    Times::new(then, Count::new(3)?).retreat(&mut held, cells.as_flattened_mut());
+    assert!(rt; cells == cells_of(SAMPLE));
     assert_eq!(rt; held.phase(), 0);
     Ok(())
 }
 
 #[test]
 fn counts_up_to_a_thousand(rt: HostRuntime) -> Result<(), Fail> {
-    assert_eq!(rt; count(0)?.number(), 0);
-    assert_eq!(rt; count(1_000)?.number(), 1_000);
-    match Count::new(1_001) {
-        Ok(_) => Err(Fail::new("1,001 is accepted")),
-        Err(cause) => {
-            assert_eq!(rt; cause.number(), 8);
-            Ok(())
-        },
-    }
+    assert_eq!(rt; Count::new(0)?.number(), 0);
+    assert_eq!(rt; Count::new(1_000)?.number(), 1_000);
+    assert_eq!(rt; Count::new(1_001).err().map(u8::from), Some(8));
+    Ok(())
 }

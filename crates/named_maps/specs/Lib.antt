@@ -1,5 +1,4 @@
-pub mod Built
 pub mod Choice
 pub mod Examples
 pub mod Named
-pub mod Undone
+pub mod Laws

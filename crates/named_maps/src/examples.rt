@@ -1,7 +1,6 @@
 // The worked examples, made with the maps themselves.
 ghost use Rattle.std.specs.Prelude.{◌≡◌, true};
 ghost use Rattle.lattice.specs.Maps.{repeated};
-ghost use Rattle.named_maps.specs.Built.{cell_moves};
 ghost use Rattle.named_maps.specs.Examples.{ExamplesComeOut, Lands, complement_forward};
 
 use crate::blocks::{bbm, critters};
@@ -10,7 +9,6 @@ use cell_map::map::CellMap;
 use lattice::map::Map;
 use lattice::start::Start;
 use layers::reverse::Reverse;
-use tables::cell::CellTable;
 
 // Whether `count` moves forward lead from a square lattice with these cells to one with the cells `far` at the phase `turned`.
 fn lands<M: Map>(
@@ -24,13 +22,11 @@ fn lands<M: Map>(
 ) -> bool
     ensures { Lands (repeated count (M.forward map.now)) side phase cells.old turned far.now result }
 {
-    match Start::new(side, side, phase) {
-        Ok(mut start) => {
-            map.advance_by(count, &mut start, cells);
-            u32::from(start.phase()) == turned && *cells == *far
-        }
-        Err(_) => false,
-    }
+    let Ok(mut start) = Start::new(side, side, phase) else {
+        return false;
+    };
+    map.advance_by(count, &mut start, cells);
+    u32::from(start.phase()) == turned && *cells == *far
 }
 
 fn bbm_lands() -> bool
@@ -74,13 +70,9 @@ fn life2_lands() -> bool
 }
 
 fn complement() -> CellMap
-    ensures { cell_moves result ≡ complement_forward }
+    ensures { ⟦<CellMap as Map>⟧.forward result ≡ complement_forward }
 {
-    let mut table = CellTable::identity();
-    match table.fill_named("complement") {
-        Ok(()) => CellMap::new(table),
-        Err(_) => unreachable(),
-    }
+    CellMap::new("complement".parse().unwrap())
 }
 
 fn complement_lands() -> bool

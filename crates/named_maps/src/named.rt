@@ -1,6 +1,6 @@
 // One of the named maps, chosen when the program runs.
 ghost use Rattle.named_maps.specs.Choice.{forward_of, backward_of};
-ghost use Rattle.named_maps.specs.Undone.{forward_undone, backward_undone, keeps_forward, keeps_backward};
+ghost use Rattle.named_maps.specs.Laws.{laws_of};
 
 use crate::blocks::{bbm, critters, tron};
 use crate::life2::life2;
@@ -22,13 +22,7 @@ impl Map for NamedMap {
 
     ghost backward = { backward_of };
 
-    ghost back_undoes_forward = { forward_undone };
-
-    ghost forward_undoes_back = { backward_undone };
-
-    ghost forward_keeps = { keeps_forward };
-
-    ghost backward_keeps = { keeps_backward };
+    ghost laws = { laws_of };
 
     fn advance(&self, start: &mut Start, cells: &mut [u8]) {
         match self {

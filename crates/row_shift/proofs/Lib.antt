@@ -1,2 +1,1 @@
-pub mod OneRow
 pub mod Progress

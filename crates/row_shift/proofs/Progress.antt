@@ -1,39 +1,37 @@
 -- Rows that are moved one after another. Assumes nothing.
-use Rattle.std.proofs.Common.{◌≡◌, ℕ, ◌+◌, ◌*◌, ◌<◌, ◌≤◌, List, length, ◌∙◌, inl, inr, ⊎_elim, mul-le-mul_right, mul_comm, add-mul, arith}
-use Rattle.std.proofs.lemmas.Bool.{cases_order}
-use Rattle.lattice.specs.Cells.{cell, by_place}
+use Rattle.std.proofs.Common.{◌≡◌, ℕ, ◌+◌, ◌*◌, ◌<◌, ◌≤◌, List, length, get_or, take, drop, ◌∙◌, below_more, arith}
+use Rattle.std.proofs.lemmas.List.{places}
+use borrow.Rule.Slice.PartMut.{put_mid}
+use Rattle.lattice.specs.Cells.{cell}
 use Rattle.lattice.specs.Limits.{Side}
-use Rattle.lattice.proofs.Places.{place_inside, by_place_from_cells}
-use Rattle.lattice.proofs.Torus.{side_some}
-use Rattle.row_shift.specs.Progress.{RowShifted, RowsShifted}
-use Rattle.row_shift.specs.Shifts.{comes_from, shifted}
+use Rattle.lattice.proofs.Places.{place_inside, row_ends_inside}
+use Rattle.row_shift.specs.Laws.{comes_inside}
+use Rattle.row_shift.specs.Shifts.{comes_from}
 use Rattle.row_shift.specs.declared.way.Way.{Way}
 
-module _ (w : ℕ) where
-  -- a row lies behind each that comes before it
-  row_behind : (x y n : ℕ) → n < y → n * w + w ≤ y * w + x
-  row_behind x y n n< = let m : (n + 1) * w ≤ y * w = mul-le-mul_right w (omega arith) in omega (arith, add-mul n 1 w)
+-- the rows before row n are moved so, and the others are as they were
+pub record RowsShifted (way : Way) (w n : ℕ) (old new : List ℕ) : Type 0 where
+  pub done : (y : ℕ) → y < n → (x : ℕ) → x < w → cell w new x y ≡ cell w old (comes_from way w x) y
+  pub rest : (y : ℕ) → n ≤ y → (x : ℕ) → x < w → cell w new x y ≡ cell w old x y
 
-  row_ahead : (x y n : ℕ) → x < w → y < n → y * w + x < n * w
-  row_ahead x y n x< y< = let i = place_inside w n x y x< y< in omega (arith, mul_comm w n)
+-- row n is the k cells of `mid` from the place a on, and becomes `row`
+module _ (w n a k : ℕ) (mid row : List ℕ) (begins : a ≡ n * w) (long : k ≡ w) (inside : a + k ≤ length mid) (count : length row ≡ k) where
+  earlier : (y : ℕ) → y < n → (x : ℕ) → x < w → cell w (put_mid a k mid row) x y ≡ cell w mid x y
+  earlier y y< x x< = let p = place_inside w n x y x< y< in grind (arith, places)
 
-  module _ (way : Way) where
-    row_more : (n : ℕ) (old mid new : List ℕ) → RowsShifted way w n old mid → RowShifted way w (n * w) mid new → RowsShifted way w (n + 1) old new
-    row_more n old mid new p q = record {
-      count = q.count ∙ p.count;
-      done = λ x y x< y<. ⊎_elim (here x y x<) (⊎_elim (earlier x y x<) (λ l. absurd (omega arith))) (cases_order y n);
-      rest = λ x y l. q.rest (y * w + x) (inr (row_behind x y n (omega arith))) ∙ p.rest x y (omega arith);
+  later : (y : ℕ) → n < y → (x : ℕ) → cell w (put_mid a k mid row) x y ≡ cell w mid x y
+  later y y< x = let p = row_ends_inside w y n y< in grind (arith, places)
+
+  module _ (way : Way) (wide : Side w) (moved : (x : ℕ) → x < length row → get_or row x 0 ≡ get_or (take k (drop a mid)) (comes_from way (length (take k (drop a mid))) x) 0) where
+    here : (x : ℕ) → x < w → cell w (put_mid a k mid row) x n ≡ cell w mid (comes_from way w x) n
+    here x x< =
+        let from : length (take k (drop a mid)) ≡ w = grind (arith, places) in
+        let m = rw from at (moved x (omega arith)) in
+        let i = comes_inside way w wide x x< in
+        grind (arith, places)
+
+    pub rows_more : {old : List ℕ} → RowsShifted way w n old mid → RowsShifted way w (n + 1) old (put_mid a k mid row)
+    rows_more p = record {
+      done = below_more _ n (λ y y< x x<. earlier y y< x x< ∙ p.done y y< x x<) (λ x x<. here x x< ∙ p.rest n (omega arith) (comes_from way w x) (comes_inside way w wide x x<));
+      rest = λ y y< x x<. later y (omega arith) x ∙ p.rest y (omega arith) x x<;
     }
-      where
-        here : (x y : ℕ) → x < w → y ≡ n → cell w new x y ≡ cell w old (comes_from way w x) y
-        here x y x< e = rw e (q.row x x< ∙ p.rest (comes_from way w x) n (omega arith))
-
-        earlier : (x y : ℕ) → x < w → y < n → cell w new x y ≡ cell w old (comes_from way w x) y
-        earlier x y x< y< = q.rest (y * w + x) (inl (row_ahead x y n x< y<)) ∙ p.done x y x< y<
-
-    pub rows_more : (width n : ℕ) (old mid new : List ℕ) → width ≡ w → RowsShifted way w n old mid → RowShifted way width (n * width) mid new → RowsShifted way w (n + 1) old new
-    rows_more width n old mid new is p q = row_more n old mid new p (rw is at q)
-
-    pub rows_all : Side w → (h n : ℕ) (old new : List ℕ) → h ≤ n → length old ≡ w * h → RowsShifted way w n old new → new ≡ by_place w h (shifted way w h old)
-    rows_all wide h n old new all long p =
-        by_place_from_cells w h (side_some w wide) (shifted way w h old) new (p.count ∙ long) (λ x y x< y<. p.done x y x< (omega arith))

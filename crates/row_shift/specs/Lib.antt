@@ -1,4 +1,3 @@
-pub mod Progress
 pub mod Shifts
 pub mod Stacks
 pub mod Laws

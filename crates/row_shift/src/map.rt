@@ -1,8 +1,7 @@
 // The row shift as a map.
 ghost use Rattle.std.specs.Prelude.{◌≡◌};
 ghost use Rattle.row_shift.specs.Shifts.{row_forward, row_backward};
-ghost use Rattle.row_shift.specs.Laws.{forward_undone, backward_undone, shifted_keeps};
-ghost use Rattle.row_shift.specs.declared.way.Way.TheVariants.{East, West};
+ghost use Rattle.row_shift.specs.Laws.{shift_laws};
 
 use crate::rows::shift_rows;
 use crate::way::Way;
@@ -26,13 +25,7 @@ impl Map for RowShift {
 
     ghost backward = { λ _. row_backward };
 
-    ghost back_undoes_forward = { λ m. forward_undone };
-
-    ghost forward_undoes_back = { λ m. backward_undone };
-
-    ghost forward_keeps = { λ m. shifted_keeps East };
-
-    ghost backward_keeps = { λ m. shifted_keeps West };
+    ghost laws = { λ _. shift_laws };
 
     // One cell east, with all bits of each cell; the phase stays.
     fn advance(&self, start: &mut Start, cells: &mut [u8]) {

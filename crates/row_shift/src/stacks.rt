@@ -4,7 +4,7 @@ ghost use Rattle.block_map.specs.Maps.{table_of};
 ghost use Rattle.lattice.specs.Maps.{repeated};
 ghost use Rattle.lattice.specs.Overlays.{laid_over};
 ghost use Rattle.lattice.specs.Starts.{held, StartOf};
-ghost use Rattle.tables.specs.Tables.{block_entries};
+ghost use Rattle.tables.specs.Tables.{entries_of};
 ghost use Rattle.row_shift.specs.Stacks.{staggered_forward, drifting_forward};
 
 use crate::map::RowShift;
@@ -33,7 +33,7 @@ pub fn drifting(table: BlockTable) -> Then<BlockMap, Reverse<RowShift>>
 
 // `count` moves forward by the drifting block map of a table.
 pub fn drift_by(table: BlockTable, count: u32, start: &mut Start, cells: &mut [u8])
-    ensures { held start.new cells.new ≡ repeated count (drifting_forward (block_entries table)) (held start.old cells.old) }
+    ensures { held start.new cells.new ≡ repeated count (drifting_forward (entries_of table)) (held start.old cells.old) }
 {
     drifting(table).advance_by(count, start, cells);
 }
@@ -47,8 +47,8 @@ pub fn staggered_round_trip(
     far: &mut [u8],
 ) -> Start
     ensures home { held start.new cells.new ≡ held start.old cells.old }
-    ensures turning { StartOf (repeated count (staggered_forward (block_entries table)) (held start.old cells.old)) result }
-    ensures far { far.new ≡ laid_over (repeated count (staggered_forward (block_entries table)) (held start.old cells.old)).cells far.old }
+    ensures turning { StartOf (repeated count (staggered_forward (entries_of table)) (held start.old cells.old)) result }
+    ensures far { far.new ≡ laid_over (repeated count (staggered_forward (entries_of table)) (held start.old cells.old)).cells far.old }
 {
     round_trip(&staggered(table), count, start, cells, far)
 }

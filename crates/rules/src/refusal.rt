@@ -2,25 +2,24 @@
 ghost use Rattle.std.specs.Prelude.{◌≡◌};
 ghost use Rattle.rules.specs.Refusals.{rule_number};
 
-#[derive(Clone, Copy, PartialEq, Eq, Debug)]
+use thiserror::Error;
+
+// Each cause with its number, as docs/REFUSALS.md lists it.
+#[derive(Clone, Copy, PartialEq, Eq, Debug, Error)]
 pub enum RuleRefusal {
-    // There are not 512 entries.
-    Entries,
-    // An entry is neither 0 nor 1.
-    TooLarge,
-    // A mask is above 511.
-    Mask,
+    #[error("there are not 512 entries")]
+    Entries = 4,
+    #[error("an entry is neither 0 nor 1")]
+    TooLarge = 5,
+    #[error("a mask is above 511")]
+    Mask = 7,
 }
 
-impl RuleRefusal {
-    // The number of the cause, as docs/REFUSALS.md lists it.
-    pub fn number(self) -> u8
-        ensures { result ≡ rule_number self }
-    {
-        match self {
-            RuleRefusal::Entries => 4,
-            RuleRefusal::TooLarge => 5,
-            RuleRefusal::Mask => 7,
-        }
+// The number of the cause.
+impl From<RuleRefusal> for u8 {
+    ghost from_gives = { λ cause n. n ≡ rule_number cause };
+
+    fn from(cause: RuleRefusal) -> u8 {
+        cause as u8
     }
 }

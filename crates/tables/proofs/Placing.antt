@@ -3,7 +3,8 @@ use Rattle.std.proofs.Common.{◌≡◌, ℕ, zero, suc, ◌+◌, ◌<◌, ◌�
 use Rattle.std.proofs.lemmas.List.{get_or-set_same, get_or-set_other, length-set, length-replicate, get_or-replicate}
 use Rattle.std.proofs.lemmas.List.Sums.{sum_by-cons, sum_by-set, get_or-le-sum_by}
 use Rattle.std.proofs.lemmas.Bool.{le-leb, lt-leb, cases_eq, cases_lt, cond-true, cond-false}
-use Rattle.tables.specs.Refusals.{Below, RepeatIn, Placing}
+use Rattle.tables.specs.Inverses.{InvertedBy}
+use Rattle.tables.specs.Refusals.{Below, Apart, RepeatIn}
 
 -- a place is free as long as it does not hold a number below n, and then counts 1
 abbrev pub weight : ℕ → ℕ → ℕ
@@ -108,7 +109,7 @@ module _ (es ps : List ℕ) (p : Placed (length es) es ps (length es)) (small : 
           let left = p.left in
           omega arith
 
-  pub placed_all : Placing es ps
+  pub placed_all : Apart es × InvertedBy (length es) es ps × InvertedBy (length es) ps es
   placed_all = (
     (λ j k h l q.
         let a = p.found j (omega arith) in

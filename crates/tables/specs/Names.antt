@@ -1,13 +1,15 @@
--- The built-in tables, entry by entry, and what a fill by a name does.
---     bbm, critters, tron               the block tables, and block_identity
---     exchange, complement              the cell tables, and cell_identity
---     Gives asked name es new r         if the name is asked for, the answer r is Ok, and the entries are then es
---     BlockNamed asked new same r       r is what a fill by the name `asked` answers. The entries are then `new`; where r refuses, `same` holds
---     CellNamed asked new same r        the same of a cell table
---     critters_back                     the inverse of critters; bbm and tron, exchange and complement are their own inverses
---     BlockInverseNamed asked back      after a fill by a name that there is, the inverse is `back`
---     CellInverseNamed asked back       the same of a cell table
-use Rattle.std.specs.Prelude.{◌≡◌, ℕ, List, [], ◌∷◌, Ok, Err, codes, Result, ◌≢◌}
+-- The built-in tables, entry by entry, and the names that they are found by.
+--     bbm, critters, tron              the block tables, and block_identity
+--     exchange, complement             the cell tables, and cell_identity
+--     critters_back                    the inverse of critters; bbm and tron, exchange and complement are their own inverses
+--     IsTable es back t                the table t has the entries es and the inverse back
+--     BlockOf asked r                  r is what the name `asked` gives: the block table of that name, or the refusal of a name that there is not
+--     CellOf asked r                   the same of a cell table
+--     Written gives old new r          r is what writing a table answers, where `gives` says which table or refusal there is to write. The table
+--                                      is then `new`; a refusal leaves the old one
+use Rattle.std.specs.Prelude.{◌≡◌, ℕ, List, [], ◌∷◌, Ok, Err, codes, Result, IsOkAnd, ◌≢◌}
+use Rattle.tables.specs.Tables.{entries_of, inverse_of}
+use Rattle.tables.specs.declared.table.Table.{Table}
 use Rattle.tables.specs.declared.refusal.TableRefusal.{TableRefusal}
 use Rattle.tables.specs.declared.refusal.TableRefusal.TheVariants.{UnknownName}
 
@@ -35,25 +37,21 @@ exchange = 0 ∷ 2 ∷ 1 ∷ 3 ∷ []
 abbrev pub complement : List ℕ
 complement = 1 ∷ 0 ∷ 3 ∷ 2 ∷ []
 
-abbrev pub Gives : List ℕ → List ℕ → List ℕ → List ℕ → Result Unit TableRefusal → Type 0
-Gives asked name entries new r = asked ≡ name → (r ≡ Ok tt) × (new ≡ entries)
+pub record IsTable {n : ℕ} (es back : List ℕ) (t : Table n) : Type 0 where
+  pub entries : entries_of t ≡ es
+  pub inverse : inverse_of t ≡ back
 
-pub record BlockNamed (asked new : List ℕ) (same : Type 0) (r : Result Unit TableRefusal) : Type 0 where
-  pub bbm_entries : Gives asked (codes "bbm") bbm new r
-  pub critters_entries : Gives asked (codes "critters") critters new r
-  pub tron_entries : Gives asked (codes "tron") tron new r
-  pub other : (asked ≢ codes "bbm") → (asked ≢ codes "critters") → (asked ≢ codes "tron") → (r ≡ Err UnknownName) × same
+pub record BlockOf (asked : List ℕ) (r : Result (Table 16) TableRefusal) : Type 0 where
+  pub bbm_table : asked ≡ codes "bbm" → IsOkAnd r (IsTable bbm bbm)
+  pub critters_table : asked ≡ codes "critters" → IsOkAnd r (IsTable critters critters_back)
+  pub tron_table : asked ≡ codes "tron" → IsOkAnd r (IsTable tron tron)
+  pub other : (asked ≢ codes "bbm") → (asked ≢ codes "critters") → (asked ≢ codes "tron") → r ≡ Err UnknownName
 
-pub record CellNamed (asked new : List ℕ) (same : Type 0) (r : Result Unit TableRefusal) : Type 0 where
-  pub exchange_entries : Gives asked (codes "exchange") exchange new r
-  pub complement_entries : Gives asked (codes "complement") complement new r
-  pub other : (asked ≢ codes "exchange") → (asked ≢ codes "complement") → (r ≡ Err UnknownName) × same
+pub record CellOf (asked : List ℕ) (r : Result (Table 4) TableRefusal) : Type 0 where
+  pub exchange_table : asked ≡ codes "exchange" → IsOkAnd r (IsTable exchange exchange)
+  pub complement_table : asked ≡ codes "complement" → IsOkAnd r (IsTable complement complement)
+  pub other : (asked ≢ codes "exchange") → (asked ≢ codes "complement") → r ≡ Err UnknownName
 
-pub record BlockInverseNamed (asked back : List ℕ) : Type 0 where
-  pub bbm_inverse : asked ≡ codes "bbm" → back ≡ bbm
-  pub critters_inverse : asked ≡ codes "critters" → back ≡ critters_back
-  pub tron_inverse : asked ≡ codes "tron" → back ≡ tron
-
-pub record CellInverseNamed (asked back : List ℕ) : Type 0 where
-  pub exchange_inverse : asked ≡ codes "exchange" → back ≡ exchange
-  pub complement_inverse : asked ≡ codes "complement" → back ≡ complement
+abbrev pub Written : {T : Type 0} → (Result T TableRefusal → Type 0) → T → T → Result Unit TableRefusal → Type 0
+Written gives old new (Ok _) = gives (Ok new)
+Written gives old new (Err e) = gives (Err e) × (new ≡ old)

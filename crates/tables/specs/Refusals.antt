@@ -6,8 +6,8 @@
 --     RepeatIn es                some entry does
 --     RefusedFor n es e          e is the first cause against the entries es where n are due: a cause counts only where none before it does
 --     Filled n es new same r     r is what a fill with es answers. The entries are then `new`; where r refuses, `same` holds
---     Placing es ps              no entry comes twice, and ps has where each stands; cited by an inner function alone
---     Inverted n es ps r         r is what the search for an inverse of es answers, and ps is the inverse; cited by an inner function alone
+--     PlacesOf es r              r is what the search for each entry's place answers: the places, where no entry comes twice; cited by an inner function alone
+--     Inverted n es r            r is what the search for an inverse of the n entries es answers; cited by an inner function alone
 use Rattle.std.specs.Prelude.{◌≡◌, ℕ, ◌<◌, ◌≤◌, List, length, Ok, Err, Result, ◌≢◌, slice_index}
 use Rattle.tables.specs.Inverses.{InvertedBy}
 use Rattle.tables.specs.declared.refusal.TableRefusal.{TableRefusal}
@@ -41,9 +41,10 @@ abbrev pub Filled : ℕ → List ℕ → List ℕ → Type 0 → Result Unit Tab
 Filled n es new same (Ok _) = (length es ≡ n) × Below n es × Apart es × (new ≡ es)
 Filled n es new same (Err e) = RefusedFor n es e × same
 
-abbrev pub Placing : List ℕ → List ℕ → Type 0
-Placing es ps = Apart es × InvertedBy (length es) es ps × InvertedBy (length es) ps es
+abbrev pub PlacesOf : List ℕ → Result (List ℕ) TableRefusal → Type 0
+PlacesOf es (Ok ps) = Apart es × InvertedBy (length es) es ps × InvertedBy (length es) ps es
+PlacesOf es (Err e) = (e ≡ Repeated) × RepeatIn es
 
-abbrev pub Inverted : ℕ → List ℕ → List ℕ → Result Unit TableRefusal → Type 0
-Inverted n es ps (Ok _) = (length es ≡ n) × Below n es × Apart es × InvertedBy n es ps × InvertedBy n ps es
-Inverted n es ps (Err e) = RefusedFor n es e
+abbrev pub Inverted : ℕ → List ℕ → Result (List ℕ) TableRefusal → Type 0
+Inverted n es (Ok ps) = Below n es × Apart es × InvertedBy n es ps × InvertedBy n ps es
+Inverted n es (Err e) = RefusedFor n es e

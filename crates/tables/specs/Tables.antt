@@ -1,18 +1,10 @@
 -- What a table holds.
---     block_entries t, block_inverse t    the entries of a block table, and those of the inverse permutation
---     cell_entries t, cell_inverse t      the same of a cell table
+--     entries_of t, inverse_of t    the entries of the table t, and those of the inverse permutation
 use Rattle.std.specs.Prelude.{ℕ, List}
-use Rattle.tables.specs.declared.block.BlockTable.{BlockTable}
-use Rattle.tables.specs.declared.cell.CellTable.{CellTable}
+use Rattle.tables.specs.declared.table.Table.{Table}
 
-abbrev pub block_entries : BlockTable → List ℕ
-block_entries t = t.entries
+abbrev pub entries_of : {n : ℕ} → Table n → List ℕ
+entries_of t = t.entries
 
-abbrev pub block_inverse : BlockTable → List ℕ
-block_inverse t = t.inverse
-
-abbrev pub cell_entries : CellTable → List ℕ
-cell_entries t = t.entries
-
-abbrev pub cell_inverse : CellTable → List ℕ
-cell_inverse t = t.inverse
+abbrev pub inverse_of : {n : ℕ} → Table n → List ℕ
+inverse_of t = t.inverse

@@ -6,10 +6,5 @@ ghost use Rattle.tables.specs.Refusals.{Below, LargeIn};
 pub fn all_below(entries: &[u8], limit: usize) -> bool
     ensures { MatchBool result (Below limit entries.now) (LargeIn limit entries.now) }
 {
-    for e in entries {
-        if *e as usize >= limit {
-            return false;
-        }
-    }
-    true
+    entries.iter().all(|&e| usize::from(e) < limit)
 }

@@ -6,3 +6,4 @@ pub mod cell;
 pub mod entries;
 mod inverting;
 pub mod refusal;
+pub mod table;

@@ -2,28 +2,26 @@
 ghost use Rattle.std.specs.Prelude.{◌≡◌};
 ghost use Rattle.tables.specs.Refusals.{table_number};
 
-#[derive(Clone, Copy, PartialEq, Eq, Debug)]
+use thiserror::Error;
+
+// Each cause with its number, as docs/REFUSALS.md lists it.
+#[derive(Clone, Copy, PartialEq, Eq, Debug, Error)]
 pub enum TableRefusal {
-    // The table takes another number of entries.
-    Count,
-    // An entry is not below the number of entries.
-    TooLarge,
-    // Two entries are the same.
-    Repeated,
-    // No built-in table has this name.
-    UnknownName,
+    #[error("the table takes another number of entries")]
+    Count = 4,
+    #[error("an entry is not below the number of entries")]
+    TooLarge = 5,
+    #[error("two entries are the same")]
+    Repeated = 6,
+    #[error("no built-in table has this name")]
+    UnknownName = 9,
 }
 
-impl TableRefusal {
-    // The number of the cause, as docs/REFUSALS.md lists it.
-    pub fn number(self) -> u8
-        ensures { result ≡ table_number self }
-    {
-        match self {
-            TableRefusal::Count => 4,
-            TableRefusal::TooLarge => 5,
-            TableRefusal::Repeated => 6,
-            TableRefusal::UnknownName => 9,
-        }
+// The number of the cause.
+impl From<TableRefusal> for u8 {
+    ghost from_gives = { λ cause n. n ≡ table_number cause };
+
+    fn from(cause: TableRefusal) -> u8 {
+        cause as u8
     }
 }

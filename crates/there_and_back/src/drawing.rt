@@ -3,7 +3,7 @@ ghost use Rattle.std.specs.Prelude.{◌≡◌, map, IfOk, string_bytes};
 ghost use Rattle.there_and_back.specs.Drawings.{sign};
 
 use lattice::start::Start;
-use std::alloc::{AllocError, Global};
+use std::alloc::{AllocError, Allocator};
 
 fn sign_of(cell: u8) -> char
     ensures { result ≡ sign cell }
@@ -11,18 +11,15 @@ fn sign_of(cell: u8) -> char
     if cell % 2 == 1 { '#' } else { '.' }
 }
 
-fn line_of(heap: Global, row: &[u8]) -> Result<String, AllocError>
+#[tactic(auto, using(crate::proofs::Signs::signs_encoded))]
+fn line_of<A: Allocator>(heap: A, row: &[u8]) -> Result<String<A>, AllocError>
     ensures { IfOk result (λ s. string_bytes s ≡ map sign row.now) }
 {
-    let mut line = String::new(heap);
-    for cell in row {
-        line.push(sign_of(*cell))?;
-    }
-    Ok(line)
+    row.iter().map(|&cell| sign_of(cell)).collect(heap)
 }
 
 pub(crate) fn draw(
-    rt: &HostRuntime,
+    rt: &(impl Print + Alloc),
     which: &str,
     start: &Start,
     cells: &[u8],

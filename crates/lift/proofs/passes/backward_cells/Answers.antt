@@ -1,5 +1,4 @@
 use Rattle.lattice.specs.Starts.{width_of, height_of}
-use Rattle.lift.specs.Maps.{unlifted}
 use Rattle.lift.specs.Laws.{unlifted_high}
 use Rattle.lift.proofs.TwoPasses.{cells_backward, low_alone}
 use Rattle.lift.proofs.passes.backward_cells.Goals as goal
@@ -9,5 +8,5 @@ returns g c =
     let f = g.R.LocalRule.answer c.args.rule.now in
     let s = c.args.start.now in
     let cs = c.args.cells.now in
-    let all = cells_backward f s cs c.exchange_cells.new.cells _ c.requires.whole c.exchange_cells.ensures c.answer_cells.ensures in
-    record { cells = all; low = low_alone f s cs cs _ c.requires.whole (unlifted f (width_of s) (height_of s) cs) (unlifted_high f (width_of s) (height_of s) cs) all }
+    let all = cells_backward f (width_of s) (height_of s) cs _ _ c.exchange_cells.ensures c.answer_cells.ensures in
+    record { cells = all; low = low_alone s cs _ c.requires.whole _ (unlifted_high f (width_of s) (height_of s) cs) all }

@@ -1,5 +1,5 @@
 use Rattle.lattice.specs.Starts.{width_of}
-use Rattle.row_shift.specs.Progress.{RowsShifted}
+use Rattle.row_shift.proofs.Progress.{RowsShifted}
 use Rattle.row_shift.proofs.rows.shift_rows.Given as goal
 
 abbrev pub invariant-loop-y : goal.invariant-loop-y

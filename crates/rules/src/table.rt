@@ -1,0 +1,66 @@
+// The table rule: an entry for each neighbourhood number.
+ghost use Rattle.std.specs.Prelude.{◌≡◌, replicate};
+ghost use Rattle.rules.specs.Bits.{AllBits};
+ghost use Rattle.std.proofs.Common.{rules};
+
+pub mod life;
+
+use crate::neighbourhood::Neighbourhood;
+use crate::refusal::RuleRefusal;
+use crate::rule::LocalRule;
+use tables::entries::all_below;
+
+#[derive(Clone, Copy)]
+pub struct TableRule {
+    entries: [u8; 512],
+    ghost bits: { AllBits entries },
+}
+
+fn zeros() -> [u8; 512]
+    ensures entries { result ≡ replicate 512 0 }
+    ensures bits { AllBits result }
+{
+    [0; 512]
+}
+
+impl TableRule {
+    ghost use Rattle.rules.specs.Refusals.{TableFilled};
+    ghost use Rattle.rules.specs.Rules.{entries_of};
+
+    // Every answer is 0.
+    pub fn new() -> TableRule
+        ensures { entries_of result ≡ replicate 512 0 }
+    {
+        TableRule { entries: zeros() }
+    }
+
+    // Replaces the whole table, or changes nothing.
+    pub fn fill(&mut self, entries: &[u8]) -> Result<(), RuleRefusal>
+        ensures { TableFilled entries.now (entries_of self.new) (self.new ≡ self.old) result }
+    {
+        let entries: [u8; 512] = entries.try_into().map_err(|_| RuleRefusal::Entries)?;
+        if !all_below(&entries, 2) {
+            return Err(RuleRefusal::TooLarge);
+        }
+        *self = TableRule { entries };
+        Ok(())
+    }
+
+    pub fn entries(&self) -> &[u8; 512]
+        ensures { result.now ≡ entries_of self.now }
+    {
+        &self.entries
+    }
+}
+
+impl LocalRule for TableRule {
+    ghost use Rattle.rules.specs.Rules.{table_answer};
+
+    ghost answer = { table_answer };
+
+    ghost binary = { Prim.search rules };
+
+    fn answer_to(&self, around: Neighbourhood) -> u8 {
+        self.entries[usize::from(around.number())]
+    }
+}

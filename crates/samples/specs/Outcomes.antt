@@ -1,0 +1,17 @@
+-- What a map makes of the sample cells.
+--     sampled s        the lattice that is held as s and the sample cells, as many as it has
+--     IsDigest l d     d has the digest of l's cells, and l's phase
+use Rattle.std.specs.Prelude.{◌≡◌, ◌*◌, map, fold}
+use Rattle.std.specs.List.{range_with_len}
+use Rattle.lattice.specs.Lattice.{Lattice}
+use Rattle.lattice.specs.Starts.{width_of, height_of, held}
+use Rattle.lattice.specs.declared.start.Start.{Start}
+use Rattle.samples.specs.Cells.{sample, mixed_in}
+use Rattle.samples.specs.declared.outcome.Digest.{Digest}
+
+abbrev pub sampled : Start → Lattice
+sampled s = held s (map sample (range_with_len 0 (width_of s * height_of s)))
+
+pub record IsDigest (l : Lattice) (d : Digest) : Type 0 where
+  pub sum : d.sum ≡ fold mixed_in 0 l.cells
+  pub phase : d.phase ≡ l.phase

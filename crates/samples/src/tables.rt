@@ -1,0 +1,17 @@
+// Tables without symmetry: a mistake that symmetry hides shows with them.
+ghost use Rattle.std.specs.Prelude.{◌≡◌, map};
+ghost use Rattle.std.specs.List.{range_with_len};
+ghost use Rattle.samples.specs.Tables.{crooked};
+
+// No turn and no reflection of the square keeps this block table.
+pub const LOPSIDED: [u8; 16] = [3, 10, 1, 8, 15, 6, 13, 4, 11, 2, 9, 0, 7, 14, 5, 12];
+
+// This cell table is not its own inverse.
+pub const CYCLE: [u8; 4] = [1, 2, 3, 0];
+
+// No exchange of two of the nine cells keeps this rule.
+pub fn crooked_entries() -> [u8; 512]
+    ensures { result ≡ map crooked (range_with_len 0 512) }
+{
+    std::array::from_fn(|n| ((n * n / 13 + n / 5) % 2) as u8)
+}

@@ -1,0 +1,55 @@
+// A table: a permutation of the numbers below N, with its inverse.
+ghost use Rattle.std.specs.Prelude.{◌≡◌, ◌≤◌};
+ghost use Rattle.tables.specs.Inverses.{InvertedBy};
+
+use crate::inverting::inverted;
+use crate::refusal::TableRefusal;
+use std::str::FromStr;
+
+#[derive(Clone, Copy)]
+pub struct Table<const N: usize> {
+    pub(crate) entries: [u8; N],
+    pub(crate) inverse: [u8; N],
+    ghost back: { InvertedBy N entries inverse },
+    ghost forth: { InvertedBy N inverse entries },
+    // A place that is free while the inverse is made holds N, so N is a byte.
+    ghost few: { N ≤ 255 },
+}
+
+impl<const N: usize> Table<N> {
+    ghost use Rattle.tables.specs.Refusals.{Filled};
+    ghost use Rattle.tables.specs.Tables.{entries_of, inverse_of};
+    ghost use Rattle.tables.specs.Names.{Written};
+
+    // Replaces the whole table, or changes nothing.
+    pub fn fill(&mut self, entries: &[u8]) -> Result<(), TableRefusal>
+        ensures { Filled N entries.now (entries_of self.new) (self.new ≡ self.old) result }
+    {
+        let entries: [u8; N] = entries.try_into().map_err(|_| TableRefusal::Count)?;
+        let inverse = inverted(&entries)?;
+        *self = Table { entries, inverse };
+        Ok(())
+    }
+
+    // Replaces the whole table, or changes nothing.
+    pub fn fill_named(&mut self, name: &str) -> Result<(), TableRefusal>
+    where
+        Self: FromStr<Err = TableRefusal>,
+        ensures { Written (⟦<Self as FromStr>⟧.from_str_gives name.now) self.old self.new result }
+    {
+        *self = name.parse()?;
+        Ok(())
+    }
+
+    pub fn entries(&self) -> &[u8; N]
+        ensures { result.now ≡ entries_of self.now }
+    {
+        &self.entries
+    }
+
+    pub fn inverse(&self) -> &[u8; N]
+        ensures { result.now ≡ inverse_of self.now }
+    {
+        &self.inverse
+    }
+}
