@@ -4,29 +4,16 @@ use cell_map::map::CellMap;
 use lattice::map::Map;
 use lattice::round_trip::round_trip;
 use lattice::start::Start;
-use samples::tables::{CYCLE, LOPSIDED};
+use samples::cells::ALL_KINDS;
+use samples::without_symmetry::{CYCLE, lopsided};
 use std::process::Abort;
 use std::test::Fail;
 use tables::block::BlockTable;
 use tables::cell::CellTable;
 
-// Four by four cells with presents, pasts and higher bits of all kinds.
-const SAMPLE: [[u8; 4]; 4] = [
-    [0xf1, 0x02, 0x04, 0x09],
-    [0x10, 0x21, 0x40, 0x80],
-    [0x03, 0x07, 0x0e, 0xff],
-    [0x55, 0xaa, 0x5a, 0xa4],
-];
-
 fn named_block(name: &str) -> Result<BlockMap, Fail> {
     let mut table = BlockTable::identity();
     table.fill_named(name)?;
-    Ok(BlockMap::new(table))
-}
-
-fn lopsided() -> Result<BlockMap, Fail> {
-    let mut table = BlockTable::identity();
-    table.fill(&LOPSIDED)?;
     Ok(BlockMap::new(table))
 }
 
@@ -73,9 +60,9 @@ fn critters_forward_and_back_on_two_by_two(rt: HostRuntime) -> Result<(), Fail> 
 
 #[test]
 fn a_table_without_symmetry_from_phase_0(rt: HostRuntime) -> Result<(), Fail> {
-    let map = lopsided()?;
+    let map = BlockMap::new(lopsided());
     let mut held = Start::new(4, 4, 0)?;
-    let mut cells = SAMPLE;
+    let mut cells = ALL_KINDS;
     map.advance(&mut held, cells.as_flattened_mut());
     assert!(rt;
         cells
@@ -98,7 +85,7 @@ fn a_table_without_symmetry_from_phase_0(rt: HostRuntime) -> Result<(), Fail> {
     );
     assert_eq!(rt; held.phase(), 1);
     map.retreat_by(3, &mut held, cells.as_flattened_mut());
-    assert!(rt; cells == SAMPLE);
+    assert!(rt; cells == ALL_KINDS);
     map.retreat(&mut held, cells.as_flattened_mut());
     assert!(rt;
         cells
@@ -114,9 +101,9 @@ fn a_table_without_symmetry_from_phase_0(rt: HostRuntime) -> Result<(), Fail> {
 
 #[test]
 fn a_table_without_symmetry_from_phase_1(rt: HostRuntime) -> Result<(), Fail> {
-    let map = lopsided()?;
+    let map = BlockMap::new(lopsided());
     let mut held = Start::new(4, 4, 1)?;
-    let mut cells = SAMPLE;
+    let mut cells = ALL_KINDS;
     map.advance(&mut held, cells.as_flattened_mut());
     assert!(rt;
         cells
@@ -129,7 +116,7 @@ fn a_table_without_symmetry_from_phase_1(rt: HostRuntime) -> Result<(), Fail> {
     );
     assert_eq!(rt; held.phase(), 0);
     map.retreat(&mut held, cells.as_flattened_mut());
-    assert!(rt; cells == SAMPLE);
+    assert!(rt; cells == ALL_KINDS);
     map.retreat(&mut held, cells.as_flattened_mut());
     assert!(rt;
         cells
@@ -181,12 +168,12 @@ fn cells_one_short_and_one_long_stay(rt: HostRuntime) -> Result<(), Fail> {
 
 #[test]
 fn a_round_trip_leads_home(rt: HostRuntime) -> Result<(), Fail> {
-    let map = lopsided()?;
+    let map = BlockMap::new(lopsided());
     let mut held = Start::new(4, 4, 1)?;
-    let mut cells = SAMPLE;
+    let mut cells = ALL_KINDS;
     let mut far = [0; 18];
     let turning = round_trip(&map, 1, &mut held, cells.as_flattened_mut(), &mut far);
-    assert!(rt; cells == SAMPLE);
+    assert!(rt; cells == ALL_KINDS);
     assert_eq!(rt; held.phase(), 1);
     assert_eq!(rt; turning.phase(), 0);
     let expected = [
@@ -198,7 +185,7 @@ fn a_round_trip_leads_home(rt: HostRuntime) -> Result<(), Fail> {
     assert!(rt; far.starts_with(expected.as_flattened()));
     assert!(rt; far[16] == 0 && far[17] == 0);
     round_trip(&map, 1_001, &mut held, cells.as_flattened_mut(), &mut far);
-    assert!(rt; cells == SAMPLE);
+    assert!(rt; cells == ALL_KINDS);
     assert_eq!(rt; held.phase(), 1);
     Ok(())
 }

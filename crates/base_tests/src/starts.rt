@@ -2,11 +2,7 @@
 use lattice::start::Start;
 use std::test::Fail;
 
-// The number of the cause, or `None` where the start record is made.
-fn refusal(width: u32, height: u32, phase: u32) -> Option<u8> {
-    Start::new(width, height, phase).err().map(u8::from)
-}
-
+// With the number of the cause, or `None` where the start record is made.
 #[test]
 fn limits_at_their_edges(rt: HostRuntime) {
     let cases: [(u32, u32, u32, Option<u8>); 19] = [
@@ -31,7 +27,8 @@ fn limits_at_their_edges(rt: HostRuntime) {
         (255, 999, 7, Some(1)),
     ];
     for (width, height, phase, number) in cases {
-        assert_eq!(rt; refusal(width, height, phase), number);
+        let answer = Start::new(width, height, phase);
+        assert_eq!(rt; answer.err().map(u8::from), number);
     }
 }
 

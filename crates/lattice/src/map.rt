@@ -4,7 +4,8 @@
 //   - two ghost functions, `forward` and `backward`, that say what the map does to a lattice;
 //   - the proof of the four laws, as the ghost member `laws` that cites a lemma;
 //   - the methods `advance` and `retreat`, which do it.
-// `advance_by` and `retreat_by` come with a body; a map that knows a faster way may bring its own.
+// `advance_by` and `retreat_by` come with a body; a map that knows a faster way may bring its own. They are a loop of one line each: a
+// function for both would take a closure over record and cells, and a ghost function that says what the closure does.
 // docs/MAPS.md says in words what a map owes, and specs/Maps.antt defines it.
 ghost use Rattle.std.specs.Prelude.{◌≡◌};
 ghost use Rattle.lattice.specs.Lattice.{Lattice};

@@ -24,7 +24,7 @@ pub struct Start {
 fn is_side(n: u32) -> bool
     ensures { result ≡ side_test n }
 {
-    n >= 2 && n <= MAX_SIDE && n % 2 == 0
+    (2..=MAX_SIDE).contains(&n) && n % 2 == 0
 }
 
 impl Start {
@@ -62,6 +62,7 @@ impl Start {
         self.height
     }
 
+    // A number, 0 or 1: the definitions calculate with it.
     pub fn phase(&self) -> u8
         ensures { result ≡ phase_of self.now }
     {

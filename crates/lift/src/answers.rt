@@ -21,7 +21,8 @@ fn answer_cell<R: LocalRule>(rule: &R, around: Neighbourhood, cell: u8) -> u8
     cell / 4 * 4 + past % 2 * 2 + cell % 2
 }
 
-// The cells of row y. The columns to the west and of the cell itself are kept from the cells before.
+// The cells of row y. The columns to the west and of the cell itself are kept from the cells before. By places, and not piece by
+// piece: the cells around, in other rows too, are read from the memory that is written.
 fn answer_row<R: LocalRule>(rule: &R, start: &Start, cells: &mut [u8], y: usize)
     requires whole { Whole (held start.now cells.old) }
     requires row { y < height_of start.now }
@@ -41,7 +42,7 @@ fn answer_row<R: LocalRule>(rule: &R, start: &Start, cells: &mut [u8], y: usize)
     }
 }
 
-// All cells.
+// All cells, row by row: no row can be lent alone, since its neighbours are read.
 pub(crate) fn answer_cells<R: LocalRule>(rule: &R, start: &Start, cells: &mut [u8])
     requires whole { Whole (held start.now cells.old) }
     ensures { cells.new ≡ each_cell (answered (R.answer rule.now)) (held start.now cells.old) }

@@ -1,9 +1,10 @@
 // The lift, of a rule that counts and of one without symmetry.
-use crate::runs::{Run, check_run, crooked};
+use crate::runs::{Run, check_run};
 use lattice::map::Map;
 use lattice::start::Start;
 use lift::map::Lift;
 use rules::count::CountRule;
+use samples::without_symmetry::crooked;
 use std::test::Fail;
 
 #[test]
@@ -33,7 +34,7 @@ fn a_rule_that_counts(rt: HostRuntime) -> Result<(), Fail> {
 
 #[test]
 fn a_rule_without_symmetry(rt: HostRuntime) -> Result<(), Fail> {
-    let map = crooked()?;
+    let map = Lift::new(crooked());
     check_run(
         &rt,
         &map,
@@ -59,7 +60,7 @@ fn a_rule_without_symmetry(rt: HostRuntime) -> Result<(), Fail> {
 // Here a cell has some of its neighbours on both sides.
 #[test]
 fn on_a_side_of_two(rt: HostRuntime) -> Result<(), Fail> {
-    let map = crooked()?;
+    let map = Lift::new(crooked());
     let mut held = Start::new(2, 2, 0)?;
     let mut small = [0xf1, 0x02, 0x10, 0x21];
     map.advance(&mut held, &mut small);
@@ -81,7 +82,7 @@ fn on_a_side_of_two(rt: HostRuntime) -> Result<(), Fail> {
 
 #[test]
 fn cells_one_short_and_one_long_stay(rt: HostRuntime) -> Result<(), Fail> {
-    let map = crooked()?;
+    let map = Lift::new(crooked());
     let mut held = Start::new(2, 2, 1)?;
     let mut short = [1, 2, 3];
     let mut long = [1, 0, 3, 2, 1];

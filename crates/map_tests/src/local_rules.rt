@@ -1,15 +1,9 @@
 // Local rules: neighbourhoods, masks, tables, Life.
 use rules::count::CountRule;
 use rules::neighbourhood::Neighbourhood;
-use rules::refusal::RuleRefusal;
 use rules::rule::LocalRule;
 use rules::table::TableRule;
 use std::test::Fail;
-
-// The number of the cause, or `None` where the rule is made.
-fn mask_refusal(birth: u32, survival: u32) -> Option<u8> {
-    CountRule::new(birth, survival).err().map(u8::from)
-}
 
 #[test]
 fn neighbourhoods_have_nine_bits(rt: HostRuntime) {
@@ -26,10 +20,15 @@ fn neighbourhoods_have_nine_bits(rt: HostRuntime) {
 
 #[test]
 fn masks_above_511_are_refused(rt: HostRuntime) {
-    assert_eq!(rt; mask_refusal(511, 511), None);
-    assert_eq!(rt; mask_refusal(512, 0), Some(7));
-    assert_eq!(rt; mask_refusal(0, 512), Some(7));
-    assert_eq!(rt; mask_refusal(4_294_967_295, 4_294_967_295), Some(7));
+    assert_eq!(rt; CountRule::new(511, 511).err().map(u8::from), None);
+    assert_eq!(rt; CountRule::new(512, 0).err().map(u8::from), Some(7));
+    assert_eq!(rt; CountRule::new(0, 512).err().map(u8::from), Some(7));
+    assert_eq!(rt;
+        CountRule::new(4_294_967_295, 4_294_967_295)
+            .err()
+            .map(u8::from),
+        Some(7)
+    );
 }
 
 #[test]
@@ -63,26 +62,21 @@ fn the_table_of_life_answers_as_its_masks_do(rt: HostRuntime) -> Result<(), Fail
     Ok(())
 }
 
-// The number of the cause, or `None` where the table is filled.
-fn fill_refusal(answer: Result<(), RuleRefusal>) -> Option<u8> {
-    answer.err().map(u8::from)
-}
-
 #[test]
 fn fills_of_a_rule_table(rt: HostRuntime) {
     let mut rule = TableRule::new();
     assert!(rt; *rule.entries() == [0; 512]);
     let mut entries = [0; 513];
     entries[511] = 1;
-    assert_eq!(rt; fill_refusal(rule.fill(&entries[0..512])), None);
+    assert_eq!(rt; rule.fill(&entries[0..512]).err().map(u8::from), None);
     assert_eq!(rt; rule.answer_to(Neighbourhood::from_bits(511)), 1);
     assert_eq!(rt; rule.answer_to(Neighbourhood::from_bits(510)), 0);
-    assert_eq!(rt; fill_refusal(rule.fill(&[1; 512])), None);
+    assert_eq!(rt; rule.fill(&[1; 512]).err().map(u8::from), None);
     entries[511] = 2;
-    assert_eq!(rt; fill_refusal(rule.fill(&entries[0..512])), Some(5));
-    assert_eq!(rt; fill_refusal(rule.fill(&entries[0..511])), Some(4));
-    assert_eq!(rt; fill_refusal(rule.fill(&entries)), Some(4));
-    assert_eq!(rt; fill_refusal(rule.fill(&[])), Some(4));
-    assert_eq!(rt; fill_refusal(rule.fill(&[255; 512])), Some(5));
+    assert_eq!(rt; rule.fill(&entries[0..512]).err().map(u8::from), Some(5));
+    assert_eq!(rt; rule.fill(&entries[0..511]).err().map(u8::from), Some(4));
+    assert_eq!(rt; rule.fill(&entries).err().map(u8::from), Some(4));
+    assert_eq!(rt; rule.fill(&[]).err().map(u8::from), Some(4));
+    assert_eq!(rt; rule.fill(&[255; 512]).err().map(u8::from), Some(5));
     assert!(rt; *rule.entries() == [1; 512]);
 }

@@ -1,5 +1,7 @@
 // The layers, over maps without symmetry.
-use crate::runs::{Run, SAMPLE, cells_of, check_run, crooked, cycle, lopsided};
+use crate::runs::{Run, cells_of, check_run};
+use block_map::map::BlockMap;
+use cell_map::map::CellMap;
 use lattice::map::Map;
 use lattice::start::Start;
 use layers::conjugate::Conjugate;
@@ -7,11 +9,14 @@ use layers::count::Count;
 use layers::reverse::Reverse;
 use layers::then::Then;
 use layers::times::Times;
+use lift::map::Lift;
+use samples::cells::ALL_KINDS;
+use samples::without_symmetry::{crooked, cycle, lopsided};
 use std::test::Fail;
 
 #[test]
 fn one_map_and_then_another(rt: HostRuntime) -> Result<(), Fail> {
-    let map = Then::new(lopsided()?, crooked()?);
+    let map = Then::new(BlockMap::new(lopsided()), Lift::new(crooked()));
     check_run(
         &rt,
         &map,
@@ -36,7 +41,7 @@ fn one_map_and_then_another(rt: HostRuntime) -> Result<(), Fail> {
 
 #[test]
 fn the_reverse_of_a_stack(rt: HostRuntime) -> Result<(), Fail> {
-    let map = Reverse::new(Then::new(lopsided()?, crooked()?));
+    let map = Reverse::new(Then::new(BlockMap::new(lopsided()), Lift::new(crooked())));
     check_run(
         &rt,
         &map,
@@ -61,7 +66,7 @@ fn the_reverse_of_a_stack(rt: HostRuntime) -> Result<(), Fail> {
 
 #[test]
 fn a_map_seen_through_another(rt: HostRuntime) -> Result<(), Fail> {
-    let map = Conjugate::new(crooked()?, cycle()?);
+    let map = Conjugate::new(Lift::new(crooked()), CellMap::new(cycle()));
     check_run(
         &rt,
         &map,
@@ -86,9 +91,9 @@ fn a_map_seen_through_another(rt: HostRuntime) -> Result<(), Fail> {
 
 #[test]
 fn three_times_and_no_time(rt: HostRuntime) -> Result<(), Fail> {
-    let then = Then::new(lopsided()?, crooked()?);
+    let then = Then::new(BlockMap::new(lopsided()), Lift::new(crooked()));
     let mut held = Start::new(4, 4, 0)?;
-    let mut cells = cells_of(SAMPLE);
+    let mut cells = ALL_KINDS;
     Times::new(then, Count::new(3)?).advance(&mut held, cells.as_flattened_mut());
     assert!(rt; cells == cells_of([0xf202040b, 0x11214382, 0x03070cfd, 0x57ab59a6]));
     assert_eq!(rt; held.phase(), 1);
@@ -97,7 +102,7 @@ fn three_times_and_no_time(rt: HostRuntime) -> Result<(), Fail> {
     assert_eq!(rt; held.phase(), 1);
     Times::new(then, Count::new(0)?).retreat(&mut held, cells.as_flattened_mut());
     Times::new(then, Count::new(3)?).retreat(&mut held, cells.as_flattened_mut());
-    assert!(rt; cells == cells_of(SAMPLE));
+    assert!(rt; cells == ALL_KINDS);
     assert_eq!(rt; held.phase(), 0);
     Ok(())
 }

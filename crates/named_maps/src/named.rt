@@ -17,6 +17,7 @@ pub enum NamedMap {
     Mixed,
 }
 
+// A `match` for each direction: maps in a list would have to be boxed, and nothing here allocates.
 impl Map for NamedMap {
     ghost forward = { forward_of };
 

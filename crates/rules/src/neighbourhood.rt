@@ -28,7 +28,7 @@ impl Neighbourhood {
         self.number
     }
 
-    // The present of the cell itself.
+    // The present of the cell itself: a number, 0 or 1, as each bit is one in the sum of the neighbours.
     pub fn centre(&self) -> u8
         ensures { result ≡ centre (number_of self.now) }
     {

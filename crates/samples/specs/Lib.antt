@@ -1,3 +1,3 @@
 pub mod Cells
 pub mod Outcomes
-pub mod Tables
+pub mod WithoutSymmetry

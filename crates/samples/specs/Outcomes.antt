@@ -1,13 +1,16 @@
 -- What a map makes of the sample cells.
---     sampled s        the lattice that is held as s and the sample cells, as many as it has
---     IsDigest l d     d has the digest of l's cells, and l's phase
-use Rattle.std.specs.Prelude.{◌≡◌, ◌*◌, map, fold}
+--     sampled s          the lattice that is held as s and the sample cells, as many as it has
+--     IsDigest l d       d has the digest of l's cells, and l's phase
+--     IsOutcome f g s o  o has the digests of the sampled lattice after one move f, after ten and after one move g, and says that it comes home
+use Rattle.std.specs.Prelude.{◌≡◌, ◌*◌, true, map, fold}
 use Rattle.std.specs.List.{range_with_len}
 use Rattle.lattice.specs.Lattice.{Lattice}
+use Rattle.lattice.specs.Maps.{repeated}
 use Rattle.lattice.specs.Starts.{width_of, height_of, held}
 use Rattle.lattice.specs.declared.start.Start.{Start}
 use Rattle.samples.specs.Cells.{sample, mixed_in}
 use Rattle.samples.specs.declared.outcome.Digest.{Digest}
+use Rattle.samples.specs.declared.outcome.Outcome.{Outcome}
 
 abbrev pub sampled : Start → Lattice
 sampled s = held s (map sample (range_with_len 0 (width_of s * height_of s)))
@@ -15,3 +18,9 @@ sampled s = held s (map sample (range_with_len 0 (width_of s * height_of s)))
 pub record IsDigest (l : Lattice) (d : Digest) : Type 0 where
   pub sum : d.sum ≡ fold mixed_in 0 l.cells
   pub phase : d.phase ≡ l.phase
+
+pub record IsOutcome (f g : Lattice → Lattice) (s : Start) (o : Outcome) : Type 0 where
+  pub one : IsDigest (f (sampled s)) o.one
+  pub ten : IsDigest (repeated 10 f (sampled s)) o.ten
+  pub back : IsDigest (g (sampled s)) o.back
+  pub home : o.home ≡ true

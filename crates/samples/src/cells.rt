@@ -1,16 +1,28 @@
 // The cells of a sample, and a digest of cells.
-ghost use Rattle.std.specs.Prelude.{◌≡◌, map, length, fold};
+ghost use Rattle.std.specs.Prelude.{◌≡◌, map, fold, IfOk};
 ghost use Rattle.std.specs.List.{range_with_len};
 ghost use Rattle.samples.specs.Cells.{mixed_in, sample};
 
+use std::alloc::{AllocError, Allocator};
+
+// Four by four cells with presents, pasts and higher bits of all kinds.
+pub const ALL_KINDS: [[u8; 4]; 4] = [
+    [0xf1, 0x02, 0x04, 0x09],
+    [0x10, 0x21, 0x40, 0x80],
+    [0x03, 0x07, 0x0e, 0xff],
+    [0x55, 0xaa, 0x5a, 0xa4],
+];
+
 // A sample has fewer cells than 65,536; the remainder only keeps the square within its type.
-pub fn sow(cells: &mut [u8])
-    ensures { cells.new ≡ map sample (range_with_len 0 (length cells.old)) }
+pub fn sown<A: Allocator>(count: usize, heap: A) -> Result<Vec<u8, A>, AllocError>
+    ensures { IfOk result (λ v. v.items ≡ map sample (range_with_len 0 count)) }
 {
-    for (k, cell) in cells.iter_mut().enumerate() {
-        let k = k % 65_536;
-        *cell = ((k * k / 3 + 5 * k + k / 7 + 7) % 256) as u8;
-    }
+    (0..count)
+        .map(|k| {
+            let k = k % 65_536;
+            ((k * k / 3 + 5 * k + k / 7 + 7) % 256) as u8
+        })
+        .collect(heap)
 }
 
 pub fn digest(cells: &[u8]) -> u32

@@ -3,6 +3,6 @@
 
 pub mod cells;
 pub mod line;
+pub mod openings;
 pub mod outcome;
-pub mod shapes;
-pub mod tables;
+pub mod without_symmetry;

@@ -1,14 +1,43 @@
 // One printed line: what a map of some name makes of the sample cells.
+ghost use Rattle.std.specs.Prelude.{◌≡◌, IfOk};
+ghost use Rattle.samples.specs.Outcomes.{IsOutcome};
+
 use crate::outcome::Outcome;
+use lattice::map::Map;
 use lattice::start::Start;
+use std::alloc::{AllocError, Allocator};
 use std::fmt;
 
 #[derive(Clone, Copy)]
 pub struct Line<'a> {
-    pub kind: &'a str,
-    pub name: &'a str,
-    pub opening: Start,
-    pub outcome: Outcome,
+    kind: &'a str,
+    name: &'a str,
+    opening: Start,
+    outcome: Outcome,
+}
+
+impl<'a> Line<'a> {
+    // The line of a map, under these words. Only for want of memory is there none.
+    pub fn of<M: Map, A: Allocator>(
+        kind: &'a str,
+        name: &'a str,
+        map: &M,
+        opening: Start,
+        heap: &A,
+    ) -> Result<Line<'a>, AllocError>
+        ensures kind { IfOk result (λ l. l.kind.now ≡ kind.now) }
+        ensures name { IfOk result (λ l. l.name.now ≡ name.now) }
+        ensures opening { IfOk result (λ l. l.opening ≡ opening) }
+        ensures outcome { IfOk result (λ l. IsOutcome (M.forward map.now) (M.backward map.now) opening l.outcome) }
+    {
+        let outcome = Outcome::of(map, opening, heap)?;
+        Ok(Line {
+            kind,
+            name,
+            opening,
+            outcome,
+        })
+    }
 }
 
 impl fmt::Display for Line<'_> {

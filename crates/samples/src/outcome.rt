@@ -1,10 +1,8 @@
 // What a map makes of the sample cells.
-ghost use Rattle.std.specs.Prelude.{◌≡◌, true, IfOk};
-ghost use Rattle.lattice.specs.Lattice.{Whole};
-ghost use Rattle.lattice.specs.Maps.{repeated};
+ghost use Rattle.std.specs.Prelude.{◌≡◌, IfOk};
 ghost use Rattle.lattice.specs.Starts.{held};
 
-use crate::cells::{digest, sow};
+use crate::cells::{digest, sown};
 use lattice::map::Map;
 use lattice::start::Start;
 use std::alloc::{AllocError, Allocator};
@@ -41,20 +39,15 @@ impl Digest {
 }
 
 impl Outcome {
-    ghost use Rattle.samples.specs.Outcomes.{sampled, IsDigest};
+    ghost use Rattle.samples.specs.Outcomes.{sampled, IsOutcome};
 
-    // In memory for two whole lattices.
-    fn within<M: Map>(map: &M, opening: Start, first: &mut [u8], cells: &mut [u8]) -> Outcome
-        requires first { Whole (held opening first.old) }
-        requires cells { Whole (held opening cells.old) }
-        ensures one { IsDigest (M.forward map.now (sampled opening)) result.one }
-        ensures ten { IsDigest (repeated 10 (M.forward map.now) (sampled opening)) result.ten }
-        ensures back { IsDigest (M.backward map.now (sampled opening)) result.back }
-        ensures home { result.home ≡ true }
+    // From the first cells, which `cells` has, too.
+    fn within<M: Map>(map: &M, opening: Start, first: &[u8], cells: &mut [u8]) -> Outcome
+        requires first { held opening first.now ≡ sampled opening }
+        requires cells { cells.old ≡ first.now }
+        ensures { IsOutcome (M.forward map.now) (M.backward map.now) opening result }
     {
-        sow(first);
         let mut start = opening;
-        cells.copy_from_slice(first);
         map.retreat(&mut start, cells);
         let back = Digest::of(&start, cells);
         start = opening;
@@ -79,14 +72,11 @@ impl Outcome {
         opening: Start,
         heap: &A,
     ) -> Result<Outcome, AllocError>
-        ensures one { IfOk result (λ o. IsDigest (M.forward map.now (sampled opening)) o.one) }
-        ensures ten { IfOk result (λ o. IsDigest (repeated 10 (M.forward map.now) (sampled opening)) o.ten) }
-        ensures back { IfOk result (λ o. IsDigest (M.backward map.now (sampled opening)) o.back) }
-        ensures home { IfOk result (λ o. o.home ≡ true) }
+        ensures { IfOk result (IsOutcome (M.forward map.now) (M.backward map.now) opening) }
     {
-        let mut first = vec![in heap; 0; opening.cell_count()]?;
-        let mut cells = vec![in heap; 0; opening.cell_count()]?;
-        Ok(Outcome::within(map, opening, &mut first, &mut cells))
+        let first = sown(opening.cell_count(), heap)?;
+        let mut cells = sown(opening.cell_count(), heap)?;
+        Ok(Outcome::within(map, opening, &first, &mut cells))
     }
 }
 

@@ -6,20 +6,12 @@ mod maps;
 use anyhow::Context;
 use lattice::start::Start;
 use maps::show_all;
-use samples::shapes::SHAPES;
-
-const REFUSED: &str = "a sample is refused";
-
-fn run(rt: &(impl Print + Alloc)) -> anyhow::Result<()> {
-    for (width, height) in SHAPES {
-        for phase in 0..2 {
-            let start = Start::new(width, height, phase).context(REFUSED)?;
-            show_all(rt, start)?;
-        }
-    }
-    Ok(())
-}
+use samples::openings::OPENINGS;
 
 fn main(rt: HostRuntime) -> anyhow::Result<()> {
-    run(&rt)
+    for (width, height, phase) in OPENINGS {
+        let opening = Start::new(width, height, phase).context("a sample is refused")?;
+        show_all(&rt, opening)?;
+    }
+    Ok(())
 }

@@ -1,5 +1,4 @@
 // The maps that are shown, kind by kind.
-use crate::REFUSED;
 use anyhow::Context;
 use block_map::map::BlockMap;
 use cell_map::map::CellMap;
@@ -13,12 +12,8 @@ use layers::times::Times;
 use lift::map::Lift;
 use named_maps::named::NamedMap;
 use rules::count::CountRule;
-use rules::table::TableRule;
 use samples::line::Line;
-use samples::outcome::Outcome;
-use samples::tables::{CYCLE, LOPSIDED, crooked_entries};
-use tables::block::BlockTable;
-use tables::cell::CellTable;
+use samples::without_symmetry::{crooked, cycle, lopsided};
 
 const NAMED: [(&str, NamedMap); 5] = [
     ("bbm", NamedMap::Bbm),
@@ -28,24 +23,6 @@ const NAMED: [(&str, NamedMap); 5] = [
     ("mixed", NamedMap::Mixed),
 ];
 
-fn lopsided() -> anyhow::Result<BlockMap> {
-    let mut table = BlockTable::identity();
-    table.fill(&LOPSIDED).context(REFUSED)?;
-    Ok(BlockMap::new(table))
-}
-
-fn cycle() -> anyhow::Result<CellMap> {
-    let mut table = CellTable::identity();
-    table.fill(&CYCLE).context(REFUSED)?;
-    Ok(CellMap::new(table))
-}
-
-fn crooked() -> anyhow::Result<Lift<TableRule>> {
-    let mut rule = TableRule::new();
-    rule.fill(&crooked_entries()).context(REFUSED)?;
-    Ok(Lift::new(rule))
-}
-
 fn show(
     rt: &(impl Print + Alloc),
     kind: &str,
@@ -53,44 +30,40 @@ fn show(
     map: &impl Map,
     opening: Start,
 ) -> anyhow::Result<()> {
-    let outcome = Outcome::of(map, opening, &rt.alloc())?;
-    let line = Line {
-        kind,
-        name,
-        opening,
-        outcome,
-    };
+    let line = Line::of(kind, name, map, opening, &rt.alloc())?;
     println!(rt; "{line}")?;
     Ok(())
 }
 
-fn show_lifts(rt: &(impl Print + Alloc), start: Start) -> anyhow::Result<()> {
-    let counted = Lift::new(CountRule::new(74, 300).context(REFUSED)?);
-    show(rt, "lift", "counted", &counted, start)?;
-    show(rt, "lift", "crooked", &crooked()?, start)
+fn show_lifts(rt: &(impl Print + Alloc), opening: Start) -> anyhow::Result<()> {
+    let counted = CountRule::new(74, 300).context("a sample is refused")?;
+    show(rt, "lift", "counted", &Lift::new(counted), opening)?;
+    show(rt, "lift", "crooked", &Lift::new(crooked()), opening)
 }
 
-fn show_stacks(rt: &(impl Print + Alloc), start: Start) -> anyhow::Result<()> {
-    let then = Then::new(lopsided()?, crooked()?);
-    show(rt, "stack", "then", &then, start)?;
-    show(rt, "stack", "reversed", &Reverse::new(then), start)?;
-    let conjugated = Conjugate::new(crooked()?, cycle()?);
-    show(rt, "stack", "conjugated", &conjugated, start)?;
-    let times = Times::new(then, Count::new(5).context(REFUSED)?);
-    show(rt, "stack", "times", &times, start)?;
-    let never = Times::new(lopsided()?, Count::new(0).context(REFUSED)?);
-    show(rt, "stack", "never", &never, start)
+fn show_stacks(rt: &(impl Print + Alloc), opening: Start) -> anyhow::Result<()> {
+    let blocks = BlockMap::new(lopsided());
+    let lift = Lift::new(crooked());
+    let then = Then::new(blocks, lift);
+    show(rt, "stack", "then", &then, opening)?;
+    show(rt, "stack", "reversed", &Reverse::new(then), opening)?;
+    let conjugated = Conjugate::new(lift, CellMap::new(cycle()));
+    show(rt, "stack", "conjugated", &conjugated, opening)?;
+    let five = Count::new(5).context("a sample is refused")?;
+    show(rt, "stack", "times", &Times::new(then, five), opening)?;
+    let none = Count::new(0).context("a sample is refused")?;
+    show(rt, "stack", "never", &Times::new(blocks, none), opening)
 }
 
-fn show_named(rt: &(impl Print + Alloc), start: Start) -> anyhow::Result<()> {
+fn show_named(rt: &(impl Print + Alloc), opening: Start) -> anyhow::Result<()> {
     for (name, map) in NAMED {
-        show(rt, "named", name, &map, start)?;
+        show(rt, "named", name, &map, opening)?;
     }
     Ok(())
 }
 
-pub(crate) fn show_all(rt: &(impl Print + Alloc), start: Start) -> anyhow::Result<()> {
-    show_lifts(rt, start)?;
-    show_stacks(rt, start)?;
-    show_named(rt, start)
+pub(crate) fn show_all(rt: &(impl Print + Alloc), opening: Start) -> anyhow::Result<()> {
+    show_lifts(rt, opening)?;
+    show_stacks(rt, opening)?;
+    show_named(rt, opening)
 }

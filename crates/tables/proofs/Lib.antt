@@ -1,3 +1,4 @@
+pub mod Fills
 pub mod Placing
 pub mod Tables
 pub mod Tested

@@ -16,6 +16,8 @@ pub struct Table<const N: usize> {
     ghost few: { N ≤ 255 },
 }
 
+// What is data of a size, the identity and the built-in tables, stands in block.rt and cell.rt. An identity for every N would have to
+// ask for N ≤ 255, and a public call asks for nothing.
 impl<const N: usize> Table<N> {
     ghost use Rattle.tables.specs.Refusals.{Filled};
     ghost use Rattle.tables.specs.Tables.{entries_of, inverse_of};

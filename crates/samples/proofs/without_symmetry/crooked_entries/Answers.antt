@@ -1,7 +1,7 @@
 use Rattle.std.proofs.Common.{rules}
 use Rattle.std.proofs.lemmas.List.FromFn.{fill_by_all}
-use Rattle.samples.specs.Tables.{crooked}
-use Rattle.samples.proofs.tables.crooked_entries.Goals as goal
+use Rattle.samples.specs.WithoutSymmetry.{crooked}
+use Rattle.samples.proofs.without_symmetry.crooked_entries.Goals as goal
 
 pub returns : goal.returns
 returns c =
