@@ -1,3 +1,4 @@
 pub mod Cells
 pub mod Outcomes
+pub mod Texts
 pub mod WithoutSymmetry

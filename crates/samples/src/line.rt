@@ -1,5 +1,5 @@
 // One printed line: what a map of some name makes of the sample cells.
-ghost use Rattle.std.specs.Prelude.{◌≡◌, IfOk};
+ghost use Rattle.std.specs.Prelude.{◌≡◌, IfOk, Some};
 ghost use Rattle.samples.specs.Outcomes.{IsOutcome};
 
 use crate::outcome::Outcome;
@@ -10,10 +10,10 @@ use std::fmt;
 
 #[derive(Clone, Copy)]
 pub struct Line<'a> {
-    kind: &'a str,
-    name: &'a str,
-    opening: Start,
-    outcome: Outcome,
+    pub kind: &'a str,
+    pub name: &'a str,
+    pub opening: Start,
+    pub outcome: Outcome,
 }
 
 impl<'a> Line<'a> {
@@ -41,6 +41,10 @@ impl<'a> Line<'a> {
 }
 
 impl fmt::Display for Line<'_> {
+    ghost use Rattle.samples.specs.Texts.{line_text};
+
+    ghost output = { λ l. Some (line_text l) };
+
     fn fmt<W: fmt::Write>(&self, f: &mut fmt::Formatter<W>) -> fmt::Result {
         let (width, height) = (self.opening.width(), self.opening.height());
         let phase = self.opening.phase();

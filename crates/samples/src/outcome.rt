@@ -1,5 +1,5 @@
 // What a map makes of the sample cells.
-ghost use Rattle.std.specs.Prelude.{◌≡◌, IfOk};
+ghost use Rattle.std.specs.Prelude.{◌≡◌, IfOk, Some};
 ghost use Rattle.lattice.specs.Starts.{held};
 
 use crate::cells::{digest, sown};
@@ -11,18 +11,18 @@ use std::fmt;
 // A lattice in short: the digest of its cells, and its phase.
 #[derive(Clone, Copy, PartialEq, Eq, Debug)]
 pub struct Digest {
-    sum: u32,
-    phase: u8,
+    pub sum: u32,
+    pub phase: u8,
 }
 
 #[derive(Clone, Copy, PartialEq, Eq, Debug)]
 pub struct Outcome {
     // After one move forward, after ten, and after one move back.
-    one: Digest,
-    ten: Digest,
-    back: Digest,
+    pub one: Digest,
+    pub ten: Digest,
+    pub back: Digest,
     // Whether ten moves back from there lead home again.
-    home: bool,
+    pub home: bool,
 }
 
 impl Digest {
@@ -81,12 +81,20 @@ impl Outcome {
 }
 
 impl fmt::Display for Digest {
+    ghost use Rattle.samples.specs.Texts.{digest_text};
+
+    ghost output = { λ d. Some (digest_text d) };
+
     fn fmt<W: fmt::Write>(&self, f: &mut fmt::Formatter<W>) -> fmt::Result {
         write!(f, "{} {}", self.sum, self.phase)
     }
 }
 
 impl fmt::Display for Outcome {
+    ghost use Rattle.samples.specs.Texts.{outcome_text};
+
+    ghost output = { λ o. Some (outcome_text o) };
+
     fn fmt<W: fmt::Write>(&self, f: &mut fmt::Formatter<W>) -> fmt::Result {
         let end = if self.home { "home" } else { "lost" };
         write!(f, "{} {} {} {end}", self.one, self.ten, self.back)
