@@ -1,7 +1,15 @@
 -- Tables without symmetry.
+--     lopsided v       entry number v of the sample block table
+--     lopsided_back    the inverse of that table
+--     cycle v          entry number v of the sample cell table
 --     crooked n        entry number n of the sample rule
---     lopsided_back    the inverse of the sample block table
 use Rattle.std.specs.Prelude.{ℕ, ◌+◌, ◌*◌, ◌/◌, ◌%◌, List, [], ◌∷◌}
+
+abbrev pub lopsided : ℕ → ℕ
+lopsided v = (7 * v + 3) % 16
+
+abbrev pub cycle : ℕ → ℕ
+cycle v = (v + 1) % 4
 
 abbrev pub crooked : ℕ → ℕ
 crooked n = (n * n / 13 + n / 5) % 2

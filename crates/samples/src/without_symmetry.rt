@@ -2,7 +2,7 @@
 ghost use Rattle.std.specs.Prelude.{◌≡◌, map};
 ghost use Rattle.std.specs.List.{range_with_len};
 ghost use Rattle.rules.specs.Rules.{entries_of as rule_entries};
-ghost use Rattle.samples.specs.WithoutSymmetry.{crooked};
+ghost use Rattle.samples.specs.WithoutSymmetry.{lopsided, cycle, crooked};
 ghost use Rattle.tables.specs.Tables.{entries_of};
 
 use rules::table::TableRule;
@@ -15,7 +15,7 @@ pub const CYCLE: [u8; 4] = [1, 2, 3, 0];
 
 // No turn and no reflection of the square keeps this block table.
 pub fn lopsided() -> BlockTable
-    ensures { entries_of result ≡ LOPSIDED }
+    ensures { entries_of result ≡ map lopsided (range_with_len 0 16) }
 {
     let mut table = BlockTable::identity();
     table.fill(&LOPSIDED).unwrap();
@@ -24,7 +24,7 @@ pub fn lopsided() -> BlockTable
 
 // This cell table is not its own inverse.
 pub fn cycle() -> CellTable
-    ensures { entries_of result ≡ CYCLE }
+    ensures { entries_of result ≡ map cycle (range_with_len 0 4) }
 {
     let mut table = CellTable::identity();
     table.fill(&CYCLE).unwrap();
