@@ -8,11 +8,11 @@ STEPS = 200
 MORE_STEPS = 5000
 
 
-def critters_start(col, row):
+def soup(col, row):
     return 16 <= col < 32 and 4 <= row < 20 and (col * col + 3 * row * row + col * row) % 7 < 3
 
 
-def bbm_start(col, row):
+def gas(col, row):
     return col < 24 and (5 * col + 3 * row * row + col * row) % 7 == 0
 
 
@@ -43,7 +43,7 @@ def same(one, other):
 
 
 def journey(name, holds):
-    the_map = model.block_map(model.BLOCK_TABLES[name])
+    the_map = model.NAMED_MAPS[name]
     print(f"{name}: {WIDTH} by {HEIGHT} cells, {STEPS} steps forward and {STEPS} back")
 
     first = start_lattice(holds)
@@ -59,6 +59,10 @@ def journey(name, holds):
     print(f"and after {MORE_STEPS} steps more, forward and back: {yes_or_no(same(home, first))}")
 
 
-journey("critters", critters_start)
+journey("critters", soup)
 print()
-journey("bbm", bbm_start)
+journey("bbm", gas)
+print()
+journey("life2", soup)
+print()
+journey("mixed", gas)

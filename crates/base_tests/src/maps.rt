@@ -137,10 +137,12 @@ fn cell_tables_keep_the_phase(rt: HostRuntime) -> Result<(), Fail> {
     let mut cells = [0x02, 0xff, 0x00, 0x01];
     complement.advance(&mut held, &mut cells);
     assert!(rt; cells == [0x03, 0xfe, 0x01, 0x00]);
+    assert_eq!(rt; held.phase(), 1);
     let cycle = cell_map_of(&CYCLE)?;
     let mut all = [0xfc, 0xfd, 0xfe, 0xff];
     cycle.advance(&mut held, &mut all);
     assert!(rt; all == [0xfd, 0xfe, 0xff, 0xfc]);
+    assert_eq!(rt; held.phase(), 1);
     cycle.retreat_by(2, &mut held, &mut all);
     assert!(rt; all == [0xff, 0xfc, 0xfd, 0xfe]);
     assert_eq!(rt; held.phase(), 1);
@@ -152,8 +154,11 @@ fn stays(rt: &impl Abort, map: &impl Map) -> Result<(), Fail> {
     let mut short = [1, 0, 3];
     let mut long = [1, 0, 3, 2, 1];
     map.advance(&mut held, &mut short);
+    assert_eq!(rt; held.phase(), 1);
     map.retreat(&mut held, &mut long);
+    assert_eq!(rt; held.phase(), 1);
     map.advance_by(3, &mut held, &mut long);
+    assert_eq!(rt; held.phase(), 1);
     map.retreat_by(5, &mut held, &mut short);
     assert!(rt; short == [1, 0, 3] && long == [1, 0, 3, 2, 1]);
     assert_eq!(rt; held.phase(), 1);

@@ -11,10 +11,10 @@
 use Rattle.std.specs.Prelude.{◌≡◌, ℕ, ◌<◌, ◌≤◌, List, length, Ok, Err, Result, ◌≢◌, slice_index}
 use Rattle.tables.specs.Inverses.{InvertedBy}
 use Rattle.tables.specs.declared.refusal.TableRefusal.{TableRefusal}
-use Rattle.tables.specs.declared.refusal.TableRefusal.TheVariants.{Count, TooLarge, Repeated, UnknownName}
+use Rattle.tables.specs.declared.refusal.TableRefusal.TheVariants.{Entries, TooLarge, Repeated, UnknownName}
 
 abbrev pub table_number : TableRefusal → ℕ
-table_number Count = 4
+table_number Entries = 4
 table_number TooLarge = 5
 table_number Repeated = 6
 table_number UnknownName = 9
@@ -32,7 +32,7 @@ abbrev pub RepeatIn : List ℕ → Type 0
 RepeatIn es = (j : ℕ) × (k : ℕ) × (j < k) × (k < length es) × (slice_index es j ≡ slice_index es k)
 
 abbrev pub RefusedFor : ℕ → List ℕ → TableRefusal → Type 0
-RefusedFor n es Count = length es ≡ n → ⊥
+RefusedFor n es Entries = length es ≢ n
 RefusedFor n es TooLarge = (length es ≡ n) × LargeIn n es
 RefusedFor n es Repeated = (length es ≡ n) × Below n es × RepeatIn es
 RefusedFor n es UnknownName = ⊥

@@ -8,7 +8,7 @@ use thiserror::Error;
 #[derive(Clone, Copy, PartialEq, Eq, Debug, Error)]
 pub enum TableRefusal {
     #[error("the table takes another number of entries")]
-    Count = 4,
+    Entries = 4,
     #[error("an entry is not below the number of entries")]
     TooLarge = 5,
     #[error("two entries are the same")]

@@ -27,7 +27,7 @@ impl<const N: usize> Table<N> {
     pub fn fill(&mut self, entries: &[u8]) -> Result<(), TableRefusal>
         ensures { Filled N entries.now (entries_of self.new) (self.new ≡ self.old) result }
     {
-        let entries: [u8; N] = entries.try_into().map_err(|_| TableRefusal::Count)?;
+        let entries: [u8; N] = entries.try_into().map_err(|_| TableRefusal::Entries)?;
         let inverse = inverted(&entries)?;
         *self = Table { entries, inverse };
         Ok(())

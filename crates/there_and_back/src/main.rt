@@ -1,4 +1,4 @@
-// Takes two lattices a way forward and the same way back, and shows where they come out.
+// Takes four lattices a way forward and the same way back, and shows where they come out.
 #![tactic(auto)]
 
 ghost use Rattle.std.specs.Prelude.{◌≡◌, if◌then◌else◌, codes};
@@ -7,10 +7,13 @@ mod drawing;
 mod scene;
 
 use anyhow::Context;
-use block_map::map::BlockMap;
 use drawing::draw;
+use lattice::map::Map;
 use lattice::round_trip::round_trip;
 use lattice::start::Start;
+use named_maps::blocks::{bbm, critters};
+use named_maps::life2::life2;
+use named_maps::mixed::mixed;
 use scene::Scene;
 
 const WIDTH: u32 = 48;
@@ -27,30 +30,38 @@ fn answer(same: bool) -> &'static str
     if same { "yes" } else { "no" }
 }
 
-fn journey(rt: &(impl Print + Alloc), name: &str, scene: Scene) -> anyhow::Result<()> {
+fn journey(
+    rt: &(impl Print + Alloc),
+    name: &str,
+    map: &impl Map,
+    scene: Scene,
+) -> anyhow::Result<()> {
     let opening = Start::new(WIDTH, HEIGHT, 0).context("the start record is refused")?;
-    let map = BlockMap::new(name.parse().context("no block table has this name")?);
     let first = scene.cells(rt.alloc(), &opening)?;
     let mut start = opening;
     let mut cells = first.clone()?;
     let mut far = first.clone()?;
     println!(rt; "{name}: {WIDTH} by {HEIGHT} cells, {STEPS} steps forward and {STEPS} back")?;
     draw(rt, "first", &start, &cells)?;
-    let turning = round_trip(&map, STEPS, &mut start, &mut cells, &mut far);
+    let turning = round_trip(map, STEPS, &mut start, &mut cells, &mut far);
     draw(rt, "farthest", &turning, &far)?;
     draw(rt, "last", &start, &cells)?;
     let home = answer(cells == first && start == opening);
     println!(rt; "the last lattice equals the first: {home}")?;
-    round_trip(&map, LONG, &mut start, &mut cells, &mut far);
+    round_trip(map, LONG, &mut start, &mut cells, &mut far);
     let home = answer(cells == first && start == opening);
     println!(rt; "and after {LONG} steps more, forward and back: {home}")?;
     Ok(())
 }
 
 fn run(rt: &(impl Print + Alloc)) -> anyhow::Result<()> {
-    journey(rt, "critters", Scene::Soup)?;
+    journey(rt, "critters", &critters(), Scene::Soup)?;
     println!(rt; "")?;
-    journey(rt, "bbm", Scene::Gas)
+    journey(rt, "bbm", &bbm(), Scene::Gas)?;
+    println!(rt; "")?;
+    journey(rt, "life2", &life2(), Scene::Soup)?;
+    println!(rt; "")?;
+    journey(rt, "mixed", &mixed(), Scene::Gas)
 }
 
 fn main(rt: HostRuntime) -> anyhow::Result<()> {

@@ -15,14 +15,6 @@ use rules::count::CountRule;
 use samples::line::Line;
 use samples::without_symmetry::{crooked, cycle, lopsided};
 
-const NAMED: [(&str, NamedMap); 5] = [
-    ("bbm", NamedMap::Bbm),
-    ("critters", NamedMap::Critters),
-    ("tron", NamedMap::Tron),
-    ("life2", NamedMap::Life2),
-    ("mixed", NamedMap::Mixed),
-];
-
 fn show(
     rt: &(impl Print + Alloc),
     kind: &str,
@@ -33,6 +25,38 @@ fn show(
     let line = Line::of(kind, name, map, opening, &rt.alloc())?;
     println!(rt; "{line}")?;
     Ok(())
+}
+
+// Maps of one type, each with its name.
+fn show_each<M: Map>(
+    rt: &(impl Print + Alloc),
+    kind: &str,
+    maps: &[(&str, M)],
+    opening: Start,
+) -> anyhow::Result<()> {
+    for (name, map) in maps {
+        show(rt, kind, name, map, opening)?;
+    }
+    Ok(())
+}
+
+fn show_blocks(rt: &(impl Print + Alloc), opening: Start) -> anyhow::Result<()> {
+    let maps = [
+        ("bbm", BlockMap::new("bbm".parse().unwrap())),
+        ("critters", BlockMap::new("critters".parse().unwrap())),
+        ("tron", BlockMap::new("tron".parse().unwrap())),
+        ("lopsided", BlockMap::new(lopsided())),
+    ];
+    show_each(rt, "block", &maps, opening)
+}
+
+fn show_cells(rt: &(impl Print + Alloc), opening: Start) -> anyhow::Result<()> {
+    let maps = [
+        ("exchange", CellMap::new("exchange".parse().unwrap())),
+        ("complement", CellMap::new("complement".parse().unwrap())),
+        ("cycle", CellMap::new(cycle())),
+    ];
+    show_each(rt, "cell", &maps, opening)
 }
 
 fn show_lifts(rt: &(impl Print + Alloc), opening: Start) -> anyhow::Result<()> {
@@ -56,13 +80,19 @@ fn show_stacks(rt: &(impl Print + Alloc), opening: Start) -> anyhow::Result<()> 
 }
 
 fn show_named(rt: &(impl Print + Alloc), opening: Start) -> anyhow::Result<()> {
-    for (name, map) in NAMED {
-        show(rt, "named", name, &map, opening)?;
-    }
-    Ok(())
+    let maps = [
+        ("bbm", NamedMap::Bbm),
+        ("critters", NamedMap::Critters),
+        ("tron", NamedMap::Tron),
+        ("life2", NamedMap::Life2),
+        ("mixed", NamedMap::Mixed),
+    ];
+    show_each(rt, "named", &maps, opening)
 }
 
 pub(crate) fn show_all(rt: &(impl Print + Alloc), opening: Start) -> anyhow::Result<()> {
+    show_blocks(rt, opening)?;
+    show_cells(rt, opening)?;
     show_lifts(rt, opening)?;
     show_stacks(rt, opening)?;
     show_named(rt, opening)
