@@ -1,4 +1,4 @@
--- A cell table and its inverse undo each other on every cell. Assumes nothing.
+-- A cell table and its inverse undo each other on every cell, and leave its free bits. Assumes nothing.
 use Rattle.std.specs.Prelude.{◌≡◌, ℕ, ◌+◌, ◌*◌, ◌/◌, ◌%◌, ◌<◌, ◌≤◌, List, [], ◌∷◌, map, length, slice_index, slice_index_or, refl}
 use Rattle.std.proofs.Common.{sym, ◌∙◌, ap, ap₂, ⊎_elim, arith}
 use Rattle.std.proofs.lemmas.List.{length-map, get_or-map, get_or_past}
@@ -6,6 +6,7 @@ use Rattle.std.proofs.lemmas.Bool.{cases_lt}
 use Rattle.lattice.specs.Cells.{OnlyBelow}
 use Rattle.lattice.specs.Lattice.{Lattice, SameShape, Bytes, with_cells}
 use Rattle.lattice.specs.Maps.{UndoneBy, Keeps, Reversible}
+use Rattle.lattice.proofs.FreeBits.{FreeBitsStay, LeavesFreeBits, if_whole_free}
 use Rattle.lattice.proofs.Wholes.{if_whole_keeps, if_whole_undoes}
 use Rattle.tables.specs.Inverses.{InvertedBy}
 use Rattle.cell_map.specs.Maps.{replaced, cell_moved}
@@ -62,6 +63,9 @@ module _ (t u : List ℕ) (undo : InvertedBy 4 t u) where
   moved_undone = if_whole_undoes (λ l. with_cells l (map (replaced t) l.cells)) (λ l. with_cells l (map (replaced u) l.cells))
       (λ l _ _. moved_shape l) (λ l _ _. ap (with_cells l) (all_back l.cells))
 
+  pub moved_free : FreeBitsStay (cell_moved t)
+  moved_free = if_whole_free (λ l. with_cells l (map (replaced t) l.cells)) (λ l _ _. only_low t (λ v h. let known = undo v h in known.0) l.cells _ refl)
+
 -- forward by a table, and back by its inverse
 pub cell_laws : (t u : List ℕ) → InvertedBy 4 t u → InvertedBy 4 u t → Reversible (cell_moved t) (cell_moved u)
 cell_laws t u there home = record {
@@ -70,3 +74,6 @@ cell_laws t u there home = record {
   forward_keeps = moved_keeps t u there;
   backward_keeps = moved_keeps u t home;
 }
+
+pub cell_free : (t u : List ℕ) → InvertedBy 4 t u → InvertedBy 4 u t → LeavesFreeBits (cell_moved t) (cell_moved u)
+cell_free t u there home = record { forward = moved_free t u there; backward = moved_free u t home }

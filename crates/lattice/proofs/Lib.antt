@@ -1,4 +1,5 @@
 pub mod EveryCell
+pub mod FreeBits
 pub mod Overlays
 pub mod Passes
 pub mod Places

@@ -12,7 +12,7 @@ pub if_whole_no : (f : Lattice → Lattice) (l : Lattice) → (Whole l → ⊥) 
 if_whole_no f l part = cond-false (eqb (length l.cells) (l.width * l.height)) (f l) l (ne_eqb (length l.cells) (l.width * l.height) part)
 
 -- what is to be shown of f is shown where l is whole, and where f leaves l as it is
-by_whole : (f : Lattice → Lattice) (l : Lattice) (P : Lattice → Type 0) → (Whole l → P (f l)) → P l → P (if_whole f l)
+pub by_whole : (f : Lattice → Lattice) (l : Lattice) (P : Lattice → Type 0) → (Whole l → P (f l)) → P l → P (if_whole f l)
 by_whole f l P yes' no' =
     ⊎_elim (λ whole. subst⁻¹ P (if_whole_yes f l whole) (yes' whole)) (λ part. subst⁻¹ P (if_whole_no f l part) no')
     (cases_eq (length l.cells) (l.width * l.height))

@@ -1,8 +1,9 @@
--- What the layers keep and undo, if their parts do. Assumes nothing.
+-- What the layers keep and undo, if their parts do, and that they leave the free bits of every cell, if these do. Assumes nothing.
 use Rattle.std.specs.Prelude.{◌≡◌, ℕ, zero, suc, refl}
 use Rattle.std.proofs.Common.{◌∙◌, ap}
 use Rattle.lattice.specs.Lattice.{Lattice, Whole, Within, SameShape}
 use Rattle.lattice.specs.Maps.{UndoneBy, Keeps, Reversible, repeated}
+use Rattle.lattice.proofs.FreeBits.{FreeBitsStay, LeavesFreeBits, repeated_free}
 use Rattle.lattice.proofs.Wholes.{same_shape, same_shape_trans}
 use Rattle.lattice.proofs.Repeats.{repeated_within, repeated_undone}
 use Rattle.layers.specs.Layers.{one_then, between}
@@ -42,6 +43,12 @@ between_undone f f' b b' kf kb uf ub ub' l w =
     let w₂ = kf.within (b l) w₁ in
     ap (λ m. b' (f' m)) (ub' (f (b l)) w₂) ∙ ap b' (uf (b l) w₁) ∙ ub l w
 
+then_stay : (f g : Lattice → Lattice) → Keeps f → FreeBitsStay f → FreeBitsStay g → FreeBitsStay (one_then f g)
+then_stay f g kf free free' l w k = free' (f l) (kf.within l w) k ∙ free l w k
+
+between_stay : (f b b' : Lattice → Lattice) → Keeps f → Keeps b → FreeBitsStay f → FreeBitsStay b → FreeBitsStay b' → FreeBitsStay (between f b b')
+between_stay f b b' kf kb free there back = then_stay b (one_then f b') kb there (then_stay f b' kf free back)
+
 -- the laws of each layer, from those of its parts
 module _ {f f' g g' : Lattice → Lattice} where
   pub then_laws : Reversible f f' → Reversible g g' → Reversible (one_then f g) (one_then g' f')
@@ -61,6 +68,15 @@ module _ {f f' g g' : Lattice → Lattice} where
     backward_keeps = between_keeps f' g g' a.backward_keeps b.forward_keeps b.backward_keeps;
   }
 
+  pub then_free : Reversible f f' → Reversible g g' → LeavesFreeBits f f' → LeavesFreeBits g g' → LeavesFreeBits (one_then f g) (one_then g' f')
+  then_free a b fa fb = record { forward = then_stay f g a.forward_keeps fa.forward fb.forward; backward = then_stay g' f' b.backward_keeps fb.backward fa.backward }
+
+  pub between_free : Reversible f f' → Reversible g g' → LeavesFreeBits f f' → LeavesFreeBits g g' → LeavesFreeBits (between f g g') (between f' g g')
+  between_free a b fa fb = record {
+    forward = between_stay f g g' a.forward_keeps b.forward_keeps fa.forward fb.forward fb.backward;
+    backward = between_stay f' g g' a.backward_keeps b.forward_keeps fa.backward fb.forward fb.backward;
+  }
+
 module _ {f f' : Lattice → Lattice} where
   pub reverse_laws : Reversible f f' → Reversible f' f
   reverse_laws a = record {
@@ -77,3 +93,6 @@ module _ {f f' : Lattice → Lattice} where
     forward_keeps = repeated_keeps f a.forward_keeps n;
     backward_keeps = repeated_keeps f' a.backward_keeps n;
   }
+
+  pub times_free : (n : ℕ) → Reversible f f' → LeavesFreeBits f f' → LeavesFreeBits (repeated n f) (repeated n f')
+  times_free n a fa = record { forward = repeated_free f a.forward_keeps fa.forward n; backward = repeated_free f' a.backward_keeps fa.backward n }

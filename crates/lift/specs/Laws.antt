@@ -1,10 +1,11 @@
--- The lift's two functions undo each other and keep what a map keeps. Assumes nothing.
+-- The lift's two functions undo each other, keep what a map keeps, and leave the free bits of every cell. Assumes nothing.
 use Rattle.std.specs.Prelude.{◌≡◌, ℕ, ◌/◌, ◌<◌, List}
 use Rattle.std.proofs.Common.{refl, ap₂, ◌∙◌}
 use Rattle.lattice.specs.Cells.{cell, by_place}
 use Rattle.lattice.specs.Limits.{Side}
 use Rattle.lattice.specs.Maps.{UndoneBy, Keeps, Reversible}
 use Rattle.lattice.proofs.EveryCell.{every_cell_keeps, every_cell_undone}
+use Rattle.lattice.proofs.FreeBits.{LeavesFreeBits, every_cell_free}
 use Rattle.lattice.proofs.Places.{cell_by_place}
 use Rattle.lift.specs.Maps.{lifted, unlifted, lift_forward, lift_backward}
 use Rattle.lift.specs.Moments.{xored, exchanged, presents, pasts}
@@ -48,3 +49,6 @@ module _ (f : ℕ → ℕ) where
 
   pub lift_laws : Reversible (lift_forward f) (lift_backward f)
   lift_laws = record { back_undoes_forward = forward_undone; forward_undoes_back = backward_undone; forward_keeps = keeps_forward; backward_keeps = keeps_backward }
+
+  pub lift_free : LeavesFreeBits (lift_forward f) (lift_backward f)
+  lift_free = record { forward = every_cell_free (lifted f) (lifted_high f); backward = every_cell_free (unlifted f) (unlifted_high f) }

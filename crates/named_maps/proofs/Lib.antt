@@ -1,2 +1,3 @@
 pub mod Chosen
+pub mod FreeBits
 pub mod Worked

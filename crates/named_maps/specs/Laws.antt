@@ -26,16 +26,16 @@ critters_home = inverted_by_test 16 critters_back critters refl
 tron_twice : InvertedBy 16 tron tron
 tron_twice = inverted_by_test 16 tron tron refl
 
-exchange_twice : InvertedBy 4 exchange exchange
+pub exchange_twice : InvertedBy 4 exchange exchange
 exchange_twice = inverted_by_test 4 exchange exchange refl
 
-bbm_laws : Reversible bbm_forward bbm_backward
+pub bbm_laws : Reversible bbm_forward bbm_backward
 bbm_laws = block_laws bbm bbm bbm_twice bbm_twice
 
-life2_laws : Reversible life2_forward life2_backward
+pub life2_laws : Reversible life2_forward life2_backward
 life2_laws = lift_laws life
 
-exchange_laws : Reversible exchange_forward exchange_backward
+pub exchange_laws : Reversible exchange_forward exchange_backward
 exchange_laws = cell_laws exchange exchange exchange_twice exchange_twice
 
 pub laws_of : (n : NamedMap) → Reversible (forward_of n) (backward_of n)

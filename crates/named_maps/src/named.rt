@@ -1,4 +1,7 @@
 // One of the named maps, chosen when the program runs.
+ghost use Rattle.std.specs.Prelude.{◌≡◌};
+ghost use Rattle.lattice.specs.Cells.{OnlyBelow};
+ghost use Rattle.lattice.specs.Starts.{held};
 ghost use Rattle.named_maps.specs.Choice.{forward_of, backward_of};
 ghost use Rattle.named_maps.specs.Laws.{laws_of};
 
@@ -25,7 +28,11 @@ impl Map for NamedMap {
 
     ghost laws = { laws_of };
 
-    fn advance(&self, start: &mut Start, cells: &mut [u8]) {
+    // Of a cell, only present and past change.
+    fn advance(&self, start: &mut Start, cells: &mut [u8])
+        ensures moved { held start.new cells.new ≡ forward_of self.now (held start.old cells.old) }
+        ensures low { OnlyBelow 4 cells.old cells.new }
+    {
         match self {
             NamedMap::Bbm => bbm().advance(start, cells),
             NamedMap::Critters => critters().advance(start, cells),
@@ -35,7 +42,10 @@ impl Map for NamedMap {
         }
     }
 
-    fn retreat(&self, start: &mut Start, cells: &mut [u8]) {
+    fn retreat(&self, start: &mut Start, cells: &mut [u8])
+        ensures moved { held start.new cells.new ≡ backward_of self.now (held start.old cells.old) }
+        ensures low { OnlyBelow 4 cells.old cells.new }
+    {
         match self {
             NamedMap::Bbm => bbm().retreat(start, cells),
             NamedMap::Critters => critters().retreat(start, cells),
