@@ -1,5 +1,6 @@
 pub mod Counts
 pub mod Layers
+pub mod Parts
 pub mod Limits
 pub mod Refusals
 pub mod Laws

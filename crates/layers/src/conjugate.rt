@@ -2,6 +2,7 @@
 ghost use Rattle.std.specs.Prelude.{◌≡◌};
 ghost use Rattle.layers.specs.Layers.{between};
 ghost use Rattle.layers.specs.Laws.{between_laws};
+ghost use Rattle.layers.specs.Parts.{conjugated_of, by_of};
 
 use lattice::map::Map;
 use lattice::start::Start;
@@ -14,19 +15,19 @@ pub struct Conjugate<A, B> {
 
 impl<A, B> Conjugate<A, B> {
     pub fn new(inner: A, by: B) -> Conjugate<A, B>
-        ensures inner { result.inner ≡ inner }
-        ensures by { result.by ≡ by }
+        ensures inner { conjugated_of result ≡ inner }
+        ensures by { by_of result ≡ by }
     {
         Conjugate { inner, by }
     }
 }
 
 impl<A: Map, B: Map> Map for Conjugate<A, B> {
-    ghost forward = { λ m. between (A.Map.forward m.inner) (B.Map.forward m.by) (B.Map.backward m.by) };
+    ghost forward = { λ m. between (A.Map.forward (conjugated_of m)) (B.Map.forward (by_of m)) (B.Map.backward (by_of m)) };
 
-    ghost backward = { λ m. between (A.Map.backward m.inner) (B.Map.forward m.by) (B.Map.backward m.by) };
+    ghost backward = { λ m. between (A.Map.backward (conjugated_of m)) (B.Map.forward (by_of m)) (B.Map.backward (by_of m)) };
 
-    ghost laws = { λ m. between_laws (A.Map.laws m.inner) (B.Map.laws m.by) };
+    ghost laws = { λ m. between_laws (A.Map.laws (conjugated_of m)) (B.Map.laws (by_of m)) };
 
     fn advance(&self, start: &mut Start, cells: &mut [u8]) {
         self.by.advance(start, cells); // into the view of the other map

@@ -1,6 +1,7 @@
 // A map with forward and back exchanged.
 ghost use Rattle.std.specs.Prelude.{◌≡◌};
 ghost use Rattle.layers.specs.Laws.{reverse_laws};
+ghost use Rattle.layers.specs.Parts.{reversed_of};
 
 use lattice::map::Map;
 use lattice::start::Start;
@@ -12,18 +13,18 @@ pub struct Reverse<A> {
 
 impl<A> Reverse<A> {
     pub fn new(inner: A) -> Reverse<A>
-        ensures { result.inner ≡ inner }
+        ensures { reversed_of result ≡ inner }
     {
         Reverse { inner }
     }
 }
 
 impl<A: Map> Map for Reverse<A> {
-    ghost forward = { λ m. A.Map.backward m.inner };
+    ghost forward = { λ m. A.Map.backward (reversed_of m) };
 
-    ghost backward = { λ m. A.Map.forward m.inner };
+    ghost backward = { λ m. A.Map.forward (reversed_of m) };
 
-    ghost laws = { λ m. reverse_laws (A.Map.laws m.inner) };
+    ghost laws = { λ m. reverse_laws (A.Map.laws (reversed_of m)) };
 
     fn advance(&self, start: &mut Start, cells: &mut [u8]) {
         self.inner.retreat(start, cells);

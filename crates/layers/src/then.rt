@@ -2,6 +2,7 @@
 ghost use Rattle.std.specs.Prelude.{◌≡◌};
 ghost use Rattle.layers.specs.Layers.{one_then};
 ghost use Rattle.layers.specs.Laws.{then_laws};
+ghost use Rattle.layers.specs.Parts.{first_of, second_of};
 
 use lattice::map::Map;
 use lattice::start::Start;
@@ -14,19 +15,19 @@ pub struct Then<A, B> {
 
 impl<A, B> Then<A, B> {
     pub fn new(first: A, second: B) -> Then<A, B>
-        ensures first { result.first ≡ first }
-        ensures second { result.second ≡ second }
+        ensures first { first_of result ≡ first }
+        ensures second { second_of result ≡ second }
     {
         Then { first, second }
     }
 }
 
 impl<A: Map, B: Map> Map for Then<A, B> {
-    ghost forward = { λ m. one_then (A.Map.forward m.first) (B.Map.forward m.second) };
+    ghost forward = { λ m. one_then (A.Map.forward (first_of m)) (B.Map.forward (second_of m)) };
 
-    ghost backward = { λ m. one_then (B.Map.backward m.second) (A.Map.backward m.first) };
+    ghost backward = { λ m. one_then (B.Map.backward (second_of m)) (A.Map.backward (first_of m)) };
 
-    ghost laws = { λ m. then_laws (A.Map.laws m.first) (B.Map.laws m.second) };
+    ghost laws = { λ m. then_laws (A.Map.laws (first_of m)) (B.Map.laws (second_of m)) };
 
     fn advance(&self, start: &mut Start, cells: &mut [u8]) {
         self.first.advance(start, cells);

@@ -3,6 +3,7 @@ ghost use Rattle.std.specs.Prelude.{◌≡◌};
 ghost use Rattle.lattice.specs.Maps.{repeated};
 ghost use Rattle.layers.specs.Counts.{number_of};
 ghost use Rattle.layers.specs.Laws.{repeated_laws};
+ghost use Rattle.layers.specs.Parts.{repeated_of, count_of};
 
 use crate::count::Count;
 use lattice::map::Map;
@@ -16,19 +17,19 @@ pub struct Times<A> {
 
 impl<A> Times<A> {
     pub fn new(inner: A, count: Count) -> Times<A>
-        ensures inner { result.inner ≡ inner }
-        ensures count { result.count ≡ count }
+        ensures inner { repeated_of result ≡ inner }
+        ensures count { count_of result ≡ count }
     {
         Times { inner, count }
     }
 }
 
 impl<A: Map> Map for Times<A> {
-    ghost forward = { λ m. repeated (number_of m.count) (A.Map.forward m.inner) };
+    ghost forward = { λ m. repeated (number_of (count_of m)) (A.Map.forward (repeated_of m)) };
 
-    ghost backward = { λ m. repeated (number_of m.count) (A.Map.backward m.inner) };
+    ghost backward = { λ m. repeated (number_of (count_of m)) (A.Map.backward (repeated_of m)) };
 
-    ghost laws = { λ m. repeated_laws m.count.number (A.Map.laws m.inner) };
+    ghost laws = { λ m. repeated_laws (number_of (count_of m)) (A.Map.laws (repeated_of m)) };
 
     fn advance(&self, start: &mut Start, cells: &mut [u8]) {
         self.inner.advance_by(self.count.number(), start, cells);

@@ -2,7 +2,7 @@
 ghost use Rattle.std.specs.Prelude.{◌≡◌};
 ghost use Rattle.lattice.specs.Cells.{OnlyBelow};
 ghost use Rattle.lattice.specs.Starts.{held};
-ghost use Rattle.lift.specs.Maps.{lift_forward, lift_backward};
+ghost use Rattle.lift.specs.Maps.{lift_forward, lift_backward, rule_of};
 ghost use Rattle.lift.specs.Laws.{lift_laws};
 
 use crate::passes::{backward_cells, forward_cells};
@@ -17,22 +17,22 @@ pub struct Lift<R> {
 
 impl<R> Lift<R> {
     pub fn new(rule: R) -> Lift<R>
-        ensures { result.rule ≡ rule }
+        ensures { rule_of result ≡ rule }
     {
         Lift { rule }
     }
 }
 
 impl<R: LocalRule> Map for Lift<R> {
-    ghost forward = { λ m. lift_forward (R.LocalRule.answer m.rule) };
+    ghost forward = { λ m. lift_forward (R.LocalRule.answer (rule_of m)) };
 
-    ghost backward = { λ m. lift_backward (R.LocalRule.answer m.rule) };
+    ghost backward = { λ m. lift_backward (R.LocalRule.answer (rule_of m)) };
 
-    ghost laws = { λ m. lift_laws (R.LocalRule.answer m.rule) };
+    ghost laws = { λ m. lift_laws (R.LocalRule.answer (rule_of m)) };
 
     // Of a cell, only present and past change; the phase stays.
     fn advance(&self, start: &mut Start, cells: &mut [u8])
-        ensures moved { held start.new cells.new ≡ lift_forward (R.LocalRule.answer self.now.rule) (held start.old cells.old) }
+        ensures moved { held start.new cells.new ≡ lift_forward (R.LocalRule.answer (rule_of self.now)) (held start.old cells.old) }
         ensures low { OnlyBelow 4 cells.old cells.new }
     {
         if start.is_whole(cells) {
@@ -41,7 +41,7 @@ impl<R: LocalRule> Map for Lift<R> {
     }
 
     fn retreat(&self, start: &mut Start, cells: &mut [u8])
-        ensures moved { held start.new cells.new ≡ lift_backward (R.LocalRule.answer self.now.rule) (held start.old cells.old) }
+        ensures moved { held start.new cells.new ≡ lift_backward (R.LocalRule.answer (rule_of self.now)) (held start.old cells.old) }
         ensures low { OnlyBelow 4 cells.old cells.new }
     {
         if start.is_whole(cells) {

@@ -1,11 +1,10 @@
 // Stacks of the row shift with block maps.
 ghost use Rattle.std.specs.Prelude.{◌≡◌};
-ghost use Rattle.block_map.specs.Maps.{table_of};
 ghost use Rattle.lattice.specs.Maps.{repeated};
 ghost use Rattle.lattice.specs.Overlays.{laid_over};
 ghost use Rattle.lattice.specs.Starts.{held, StartOf};
-ghost use Rattle.tables.specs.Tables.{entries_of};
-ghost use Rattle.row_shift.specs.Stacks.{staggered_forward, drifting_forward};
+ghost use Rattle.tables.specs.Tables.{entries_of, inverse_of};
+ghost use Rattle.row_shift.specs.Stacks.{staggered_forward, staggered_backward, drifting_forward, drifting_backward};
 
 use crate::map::RowShift;
 use block_map::map::BlockMap;
@@ -19,14 +18,16 @@ use tables::block::BlockTable;
 
 // The block map of a table, seen through the shift: its blocks are moved by one column.
 pub fn staggered(table: BlockTable) -> Conjugate<BlockMap, RowShift>
-    ensures { table_of result.inner ≡ table }
+    ensures forward { ⟦<Conjugate<BlockMap, RowShift> as Map>⟧.forward result ≡ staggered_forward (entries_of table) }
+    ensures backward { ⟦<Conjugate<BlockMap, RowShift> as Map>⟧.backward result ≡ staggered_backward (inverse_of table) }
 {
     Conjugate::new(BlockMap::new(table), RowShift::new())
 }
 
 // The block map of a table, in a frame that goes one cell east with each move.
 pub fn drifting(table: BlockTable) -> Then<BlockMap, Reverse<RowShift>>
-    ensures { table_of result.first ≡ table }
+    ensures forward { ⟦<Then<BlockMap, Reverse<RowShift>> as Map>⟧.forward result ≡ drifting_forward (entries_of table) }
+    ensures backward { ⟦<Then<BlockMap, Reverse<RowShift>> as Map>⟧.backward result ≡ drifting_backward (inverse_of table) }
 {
     Then::new(BlockMap::new(table), Reverse::new(RowShift::new()))
 }
