@@ -275,6 +275,38 @@ for phase in [0, 1]:
             model.advance_by(model.LIFE2, square, moves),
             from_hex(4, 4, phase, f"{byte} {byte} 00 00  {byte} {byte} 00 00  00 00 00 00  00 00 00 00"),
         )
+# The cases that tell left from right, above from below and there from back.
+lopsided_blocks = model.block_map([(7 * v + 3) % 16 for v in range(16)])
+west_lift = model.lift(lambda number: number >> 3 & 1)
+north_lift = model.lift(lambda number: number >> 1 & 1)
+check("right counts 2 and below 4", lopsided_blocks.forward(ball), from_hex(2, 2, 1, "00 01 00 01"))
+last = from_hex(4, 2, 1, "00 00 00 00  00 00 00 01")
+first = from_hex(4, 2, 0, "01 00 00 00  00 00 00 00")
+check("blocks of phase 1 reach round both edges", bbm.forward(last), first)
+check("back rewrites the blocks of the new phase", bbm.backward(first), last)
+check("a neighbour on both sides counts in each", model.neighbourhood_numbers(2, 2, [0, 1, 0, 0])[0], 40)
+seen_through_cycle = model.conjugate(model.LIFE2, model.cell_map([1, 2, 3, 0]))
+for phase in [0, 1]:
+    check(
+        "west is the column before",
+        west_lift.forward(from_hex(4, 2, phase, "00 01 00 00  00 00 00 00")),
+        from_hex(4, 2, phase, "00 02 01 00  00 00 00 00"),
+    )
+    check(
+        "north is the row above",
+        north_lift.forward(from_hex(4, 4, phase, "00 00 00 00  00 01 00 00  00 00 00 00  00 00 00 00")),
+        from_hex(4, 4, phase, "00 00 00 00  00 02 00 00  00 01 00 00  00 00 00 00"),
+    )
+    check(
+        "life2 goes back",
+        model.LIFE2.backward(from_hex(4, 4, phase, "03 03 00 00  03 03 00 00  00 00 00 00  00 00 00 00")),
+        from_hex(4, 4, phase, "01 01 00 00  01 01 00 00  00 00 00 00  00 00 00 00"),
+    )
+    check(
+        "a conjugation goes in first",
+        seen_through_cycle.forward(from_hex(4, 4, phase, "01 00 00 00  00 00 00 00  00 00 00 00  00 00 00 00")),
+        from_hex(4, 4, phase, "00 01 01 01  01 01 01 01  01 01 01 01  01 01 01 01"),
+    )
 for name in ["bbm", "critters", "tron"]:
     for cells in ["01 00 00 00", "F1 02 03 04", "FD FE FF FC", "01 01 00 01"]:
         for phase in [0, 1]:

@@ -4,7 +4,7 @@
 --     RewroteAt t s done old new      the same, with sides and phase from the start record s
 --     only X Y                        the block with the corner (X, Y)
 --     in_row Y                        the blocks whose corner is in row Y
---     IsCorner n p x                    on one axis, x is the first of its block
+--     IsCorner n p x                  on one axis, x is the first of its block
 use Rattle.std.specs.Prelude.{◌≡◌, ℕ, ◌<◌, Bool, cond, ◌&&◌, List, length, ◌==◌}
 use Rattle.lattice.specs.Cells.{cell}
 use Rattle.lattice.specs.Starts.{width_of, height_of, phase_of}

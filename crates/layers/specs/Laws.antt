@@ -86,6 +86,9 @@ module _ {f f' : Lattice → Lattice} where
     backward_keeps = a.forward_keeps;
   }
 
+  pub reverse_free : LeavesFreeBits f f' → LeavesFreeBits f' f
+  reverse_free fa = record { forward = fa.backward; backward = fa.forward }
+
   pub repeated_laws : (n : ℕ) → Reversible f f' → Reversible (repeated n f) (repeated n f')
   repeated_laws n a = record {
     back_undoes_forward = repeated_undone f f' a.forward_keeps a.back_undoes_forward n;

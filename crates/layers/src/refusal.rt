@@ -7,7 +7,7 @@ use thiserror::Error;
 // Each cause with its number, as docs/REFUSALS.md lists it.
 #[derive(Clone, Copy, PartialEq, Eq, Debug, Error)]
 pub enum CountRefusal {
-    #[error("it is above 1,000")]
+    #[error("the count is above 1,000")]
     TooLarge = 8,
 }
 

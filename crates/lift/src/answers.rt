@@ -21,8 +21,8 @@ fn answer_cell<R: LocalRule>(rule: &R, around: Neighbourhood, cell: u8) -> u8
     cell / 4 * 4 + past % 2 * 2 + cell % 2
 }
 
-// The cells of row y. The columns to the west and of the cell itself are kept from the cells before. By places, and not piece by
-// piece: the cells around, in other rows too, are read from the memory that is written.
+// The cells of row y. The columns to the west and of the cell itself are kept from the last turns of the loop. By places, and not
+// piece by piece: the cells around, in other rows too, are read from the memory that is written.
 fn answer_row<R: LocalRule>(rule: &R, start: &Start, cells: &mut [u8], y: usize)
     requires whole { Whole (held start.now cells.old) }
     requires row { y < height_of start.now }

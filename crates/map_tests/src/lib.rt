@@ -1,4 +1,4 @@
-// Examples of local rules, lifts, layers and named maps, with results worked out by hand or by the model under tools/.
+// Examples of local rules, lifts, layers, named maps and a user's map, with results worked out by hand or by the model under tools/.
 #![tactic(auto)]
 
 #[cfg(test)]
@@ -13,3 +13,5 @@ mod outcomes;
 mod runs;
 #[cfg(test)]
 mod stacks;
+#[cfg(test)]
+mod users_map;

@@ -7,6 +7,8 @@ use named_maps::examples::examples_come_out;
 use named_maps::life2::life2;
 use named_maps::mixed::mixed;
 use named_maps::named::NamedMap;
+use samples::openings::OPENINGS;
+use samples::outcome::Outcome;
 use std::process::Abort;
 use std::test::Fail;
 
@@ -112,4 +114,24 @@ fn block_maps_by_their_names(rt: HostRuntime) -> Result<(), Fail> {
     let (ahead, behind) = moved(&rt, &NamedMap::Critters, [1, 0, 0, 0])?;
     assert!(rt; ahead == [0, 1, 1, 1] && behind == [1, 1, 1, 0]);
     Ok(())
+}
+
+// The map of a call makes of the sample what the choice of its name makes of it; `map_vectors` holds that against the model.
+fn as_chosen(rt: &(impl Abort + Alloc), map: &impl Map, choice: NamedMap) -> Result<(), Fail> {
+    for (width, height, phase) in OPENINGS {
+        let opening = Start::new(width, height, phase)?;
+        let outcome = Outcome::of(map, opening, &rt.alloc())?;
+        assert!(rt; outcome == Outcome::of(&choice, opening, &rt.alloc())?);
+        assert!(rt; outcome.home);
+    }
+    Ok(())
+}
+
+#[test]
+fn calls_and_choices_are_the_same_maps(rt: HostRuntime) -> Result<(), Fail> {
+    as_chosen(&rt, &bbm(), NamedMap::Bbm)?;
+    as_chosen(&rt, &critters(), NamedMap::Critters)?;
+    as_chosen(&rt, &tron(), NamedMap::Tron)?;
+    as_chosen(&rt, &life2(), NamedMap::Life2)?;
+    as_chosen(&rt, &mixed(), NamedMap::Mixed)
 }

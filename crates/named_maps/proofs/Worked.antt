@@ -19,6 +19,14 @@ worked_examples = record {
   complement_turns_an_absent = refl;
   complement_turns_a_present = refl;
   complement_turns_every_cell = λ p. refl;
+  right_counts_two_and_below_four = refl;
+  blocks_of_phase_1_reach_round_both_edges = refl;
+  back_rewrites_the_blocks_of_the_new_phase = refl;
+  west_is_the_column_before = λ p. refl;
+  north_is_the_row_above = λ p. refl;
+  a_neighbour_on_both_sides_counts_in_each = refl;
+  life2_goes_back = λ p. refl;
+  a_conjugation_goes_in_first = λ p. refl;
 }
 
 -- s and cs make the square that an example begins with, and a move leads to s' and cs'

@@ -1,18 +1,30 @@
--- Worked examples of the named maps, in the order of docs/MAPS.md. Cells are given row by row.
+-- Worked examples, in the order of docs/MAPS.md: of the named maps, and then such as tell left from right, above from below and there from back. Cells are given row by row.
 --     square n p cs          the lattice of n by n cells at phase p
 --     one_present            two by two cells, the first of them present; one_marked, the same with the upper free bits set
 --     all_kinds              two by two cells with each kind of past and present
 --     in_the_corner c        the cells of four by four that have c in the upper left two by two, and 0 elsewhere
+--     one_below_another c d  the cells of four by four that have c at column 1 and row 1, d below it, and 0 elsewhere
+--     first_and_others c d   the cells of four by four that have c first, and d elsewhere
 --     complement_forward     the cell map of the table complement
+--     wide p cs              the lattice of four by two cells at phase p
+--     lopsided               a block table that no turn and no reflection of the square keeps
+--     cycle, cycle_back      a cell table that is not its own inverse, and that inverse
+--     seen_through f         f as it looks through the cell map of cycle
 --     ExamplesComeOut        each example comes out as it was worked by hand
---     Lands f n p cs q ds r  if f leads from the square with cells cs at phase p to the one with cells ds at phase q, then r says so; cited by an inner function alone
+--     Lands f n p cs q ds r  if there can be a start record of that square, and f leads from the square with cells cs at phase p to the one with cells ds at phase q, then r says so; cited by an inner function alone
 use Rattle.std.specs.Prelude.{◌≡◌, ℕ, Bool, true, List, [], ◌∷◌, None}
 use Rattle.lattice.specs.Lattice.{Lattice}
 use Rattle.lattice.specs.Maps.{repeated}
 use Rattle.lattice.specs.Refusals.{start_refusal}
 use Rattle.tables.specs.Names.{complement}
+use Rattle.block_map.specs.Maps.{block_forward}
 use Rattle.cell_map.specs.Maps.{replaced, cell_moved}
-use Rattle.named_maps.specs.Named.{bbm_forward, critters_forward, critters_backward, life2_forward}
+use Rattle.rules.specs.Neighbourhoods.{bit}
+use Rattle.lift.specs.Maps.{lift_forward}
+use Rattle.lift.specs.Moments.{presents}
+use Rattle.lift.specs.Neighbours.{around}
+use Rattle.layers.specs.Layers.{between}
+use Rattle.named_maps.specs.Named.{bbm_forward, bbm_backward, critters_forward, critters_backward, life2_forward, life2_backward}
 
 abbrev pub square : ℕ → ℕ → List ℕ → Lattice
 square n p cs = record { width = n; height = n; phase = p; cells = cs }
@@ -29,8 +41,29 @@ all_kinds = 2 ∷ 255 ∷ 0 ∷ 1 ∷ []
 abbrev pub in_the_corner : ℕ → List ℕ
 in_the_corner c = c ∷ c ∷ 0 ∷ 0 ∷ c ∷ c ∷ 0 ∷ 0 ∷ 0 ∷ 0 ∷ 0 ∷ 0 ∷ 0 ∷ 0 ∷ 0 ∷ 0 ∷ []
 
+abbrev pub one_below_another : ℕ → ℕ → List ℕ
+one_below_another c d = 0 ∷ 0 ∷ 0 ∷ 0 ∷ 0 ∷ c ∷ 0 ∷ 0 ∷ 0 ∷ d ∷ 0 ∷ 0 ∷ 0 ∷ 0 ∷ 0 ∷ 0 ∷ []
+
+abbrev pub first_and_others : ℕ → ℕ → List ℕ
+first_and_others c d = c ∷ d ∷ d ∷ d ∷ d ∷ d ∷ d ∷ d ∷ d ∷ d ∷ d ∷ d ∷ d ∷ d ∷ d ∷ d ∷ []
+
 abbrev pub complement_forward : Lattice → Lattice
 complement_forward = cell_moved complement
+
+abbrev pub wide : ℕ → List ℕ → Lattice
+wide p cs = record { width = 4; height = 2; phase = p; cells = cs }
+
+abbrev pub lopsided : List ℕ
+lopsided = 3 ∷ 10 ∷ 1 ∷ 8 ∷ 15 ∷ 6 ∷ 13 ∷ 4 ∷ 11 ∷ 2 ∷ 9 ∷ 0 ∷ 7 ∷ 14 ∷ 5 ∷ 12 ∷ []
+
+abbrev pub cycle : List ℕ
+cycle = 1 ∷ 2 ∷ 3 ∷ 0 ∷ []
+
+abbrev pub cycle_back : List ℕ
+cycle_back = 3 ∷ 0 ∷ 1 ∷ 2 ∷ []
+
+abbrev pub seen_through : (Lattice → Lattice) → Lattice → Lattice
+seen_through f = between f (cell_moved cycle) (cell_moved cycle_back)
 
 pub record ExamplesComeOut : Type 0 where
   pub bbm_crosses_its_block : bbm_forward (square 2 0 one_present) ≡ square 2 1 (0 ∷ 0 ∷ 0 ∷ 1 ∷ [])
@@ -44,6 +77,14 @@ pub record ExamplesComeOut : Type 0 where
   pub complement_turns_an_absent : replaced complement 2 ≡ 3
   pub complement_turns_a_present : replaced complement 255 ≡ 254
   pub complement_turns_every_cell : (p : ℕ) → complement_forward (square 2 p all_kinds) ≡ square 2 p (3 ∷ 254 ∷ 1 ∷ 0 ∷ [])
+  pub right_counts_two_and_below_four : block_forward lopsided (square 2 0 one_present) ≡ square 2 1 (0 ∷ 1 ∷ 0 ∷ 1 ∷ [])
+  pub blocks_of_phase_1_reach_round_both_edges : bbm_forward (wide 1 (0 ∷ 0 ∷ 0 ∷ 0 ∷ 0 ∷ 0 ∷ 0 ∷ 1 ∷ [])) ≡ wide 0 (1 ∷ 0 ∷ 0 ∷ 0 ∷ 0 ∷ 0 ∷ 0 ∷ 0 ∷ [])
+  pub back_rewrites_the_blocks_of_the_new_phase : bbm_backward (wide 0 (1 ∷ 0 ∷ 0 ∷ 0 ∷ 0 ∷ 0 ∷ 0 ∷ 0 ∷ [])) ≡ wide 1 (0 ∷ 0 ∷ 0 ∷ 0 ∷ 0 ∷ 0 ∷ 0 ∷ 1 ∷ [])
+  pub west_is_the_column_before : (p : ℕ) → lift_forward (bit 3) (wide p (0 ∷ 1 ∷ 0 ∷ 0 ∷ 0 ∷ 0 ∷ 0 ∷ 0 ∷ [])) ≡ wide p (0 ∷ 2 ∷ 1 ∷ 0 ∷ 0 ∷ 0 ∷ 0 ∷ 0 ∷ [])
+  pub north_is_the_row_above : (p : ℕ) → lift_forward (bit 1) (square 4 p (one_below_another 1 0)) ≡ square 4 p (one_below_another 2 1)
+  pub a_neighbour_on_both_sides_counts_in_each : around 2 2 (presents 2 (0 ∷ 1 ∷ 0 ∷ 0 ∷ [])) 0 0 ≡ 40
+  pub life2_goes_back : (p : ℕ) → life2_backward (square 4 p (in_the_corner 3)) ≡ square 4 p (in_the_corner 1)
+  pub a_conjugation_goes_in_first : (p : ℕ) → seen_through life2_forward (square 4 p (first_and_others 1 0)) ≡ square 4 p (first_and_others 0 1)
 
 abbrev pub Lands : (Lattice → Lattice) → ℕ → ℕ → List ℕ → ℕ → List ℕ → Bool → Type 0
 Lands f n p cs q ds r = start_refusal n n p ≡ None → f (square n p cs) ≡ square n q ds → r ≡ true

@@ -10,23 +10,23 @@ use lattice::map::Map;
 use lattice::start::Start;
 use layers::reverse::Reverse;
 
-// Whether `count` moves forward lead from a square lattice with these cells to one with the cells `far` at the phase `turned`.
+// Whether `count` moves forward lead from a square lattice with these cells to one with the cells `far` at the phase `after`.
 fn lands<M: Map>(
     map: &M,
     count: u32,
     side: u32,
     phase: u32,
     cells: &mut [u8],
-    turned: u32,
+    after: u32,
     far: &[u8],
 ) -> bool
-    ensures { Lands (repeated count (M.forward map.now)) side phase cells.old turned far.now result }
+    ensures { Lands (repeated count (M.forward map.now)) side phase cells.old after far.now result }
 {
     let Ok(mut start) = Start::new(side, side, phase) else {
         return false;
     };
     map.advance_by(count, &mut start, cells);
-    u32::from(start.phase()) == turned && *cells == *far
+    u32::from(start.phase()) == after && *cells == *far
 }
 
 fn bbm_lands() -> bool

@@ -1,5 +1,5 @@
 -- The row shift: what becomes of one cell, and of a lattice.
---     comes_from way w x              the column from which the cell of column x comes, in a row of w cells
+--     comes_from way w x        the column from which the cell of column x comes, in a row of w cells
 --     shifted way w h cs x y    what the cell of column x and row y becomes, from the cells cs before
 --     row_forward               every row one cell east, where the lattice is whole
 --     row_backward              every row one cell west, where it is

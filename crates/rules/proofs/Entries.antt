@@ -6,17 +6,21 @@ use Rattle.std.proofs.lemmas.List.{get_or-replicate}
 use Rattle.std.specs.List.{range_with_len}
 use Rattle.rules.specs.Bits.{AllBits}
 use Rattle.rules.specs.Limits.{neighbourhoods}
-use Rattle.rules.specs.Rules.{Binary, count_answer, SameAnswers}
+use Rattle.rules.specs.Rules.{Binary, count_answer, entry_of, life, SameAnswers}
 
 -- a table that has been computed to be that of f, entry after entry, answers as f does
 pub entries_answer : (f : ℕ → ℕ) (es : List ℕ) → es ≡ map f (range_with_len 0 neighbourhoods) → SameAnswers (λ n. get_or es n 0) f
 entries_answer f es all n h = ap (λ t. get_or t n 0) all ∙ get_or-map-range_with_len f 0 neighbourhoods n n 0 h (zero-add n)
 
-pub entries_bits : (f : ℕ → ℕ) (es : List ℕ) → Binary f → es ≡ map f (range_with_len 0 neighbourhoods) → AllBits es
-entries_bits f es binary all n h = let e = entries_answer f es all n h in let b = binary n h in omega arith
-
-pub count_binary : (b s : ℕ) → Binary (count_answer b s)
+count_binary : (b s : ℕ) → Binary (count_answer b s)
 count_binary b s n h = omega arith
+
+-- a table that answers as a rule does has bits alone
+pub entries_bits : (f : ℕ → ℕ) (es : List ℕ) → Binary f → SameAnswers (entry_of es) f → AllBits es
+entries_bits f es binary same n h = let e = same n h in let b = binary n h in omega arith
+
+pub life_bits : (es : List ℕ) → SameAnswers (entry_of es) life → AllBits es
+life_bits es = entries_bits life es (count_binary 8 12)
 
 pub zeros_bits : AllBits (replicate neighbourhoods 0)
 zeros_bits n h = subst⁻¹ (λ (e : ℕ). e < 2) (get_or-replicate neighbourhoods n 0 0 h) (omega arith)

@@ -1,4 +1,4 @@
-// Local rules: what a cell's neighbourhood answers, 0 or 1.
+// Local rules: what is answered to a cell's neighbourhood, 0 or 1.
 #![tactic(auto)]
 
 pub mod count;

@@ -15,7 +15,7 @@ impl Neighbourhood {
 
     // The neighbourhood that the lowest nine bits say.
     pub fn from_bits(bits: u16) -> Neighbourhood
-        ensures { number_of result ≡ bits % 512 }
+        ensures { number_of result ≡ bits % neighbourhoods }
     {
         Neighbourhood {
             number: bits % NEIGHBOURHOODS,

@@ -11,7 +11,7 @@ use crate::neighbourhood::Neighbourhood;
 pub trait LocalRule {
     ghost answer: { Self → ℕ → ℕ };
 
-    // A number, 0 or 1: the lift adds it to a past.
+    // A number, 0 or 1: the lift XORs it into a past.
     fn answer_to(&self, around: Neighbourhood) -> u8
         ensures { result ≡ answer self.now (number_of around) };
 

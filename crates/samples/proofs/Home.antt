@@ -4,8 +4,11 @@ use Rattle.lattice.specs.Lattice.{Lattice, Bytes}
 use Rattle.lattice.specs.Maps.{Reversible, repeated}
 use Rattle.lattice.specs.Starts.{held}
 use Rattle.lattice.specs.declared.start.Start.{Start}
-use Rattle.lattice.proofs.Repeats.{home_again}
+use Rattle.lattice.proofs.Repeats.{home_again, repeated_undone}
 use Rattle.lattice.proofs.Starts.{held_within}
+
+pub ten_home : (f g : Lattice → Lattice) → Reversible f g → (s : Start) (cs : List ℕ) (l : Lattice) → Bytes cs → held s cs ≡ l → repeated 10 g (repeated 10 f l) ≡ l
+ten_home f g laws s cs l bytes is = rw (← is) (repeated_undone f g laws.forward_keeps laws.back_undoes_forward 10 (held s cs) (held_within s cs bytes))
 
 -- one move forward and nine more, and then ten back
 pub home_of_ten : (f g : Lattice → Lattice) → Reversible f g → (s : Start) (cs : List ℕ) (one ten last : Lattice) → Bytes cs

@@ -1,5 +1,5 @@
 -- The cells of a sample, and the digest of cells.
---     sample k             cell number k
+--     sample k             cell number k; a sample has fewer than 65,536
 --     mixed_in sum cell    the digest, one cell further on
 use Rattle.std.specs.Prelude.{ℕ, ◌+◌, ◌*◌, ◌/◌, ◌%◌}
 

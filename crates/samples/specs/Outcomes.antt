@@ -1,7 +1,7 @@
 -- What a map makes of the sample cells.
 --     sampled s          the lattice that is held as s and the sample cells, as many as it has
 --     IsDigest l d       d has the digest of l's cells, and l's phase
---     IsOutcome f g s o  o has the digests of the sampled lattice after one move f, after ten and after one move g, and says that it comes home
+--     IsOutcome f g s o  o has the digests of the sampled lattice after one move f, after ten and after one move g; ten moves g from there lead home, and o says so
 use Rattle.std.specs.Prelude.{◌≡◌, ◌*◌, true, map, fold}
 use Rattle.std.specs.List.{range_with_len}
 use Rattle.lattice.specs.Lattice.{Lattice}
@@ -23,4 +23,5 @@ pub record IsOutcome (f g : Lattice → Lattice) (s : Start) (o : Outcome) : Typ
   pub one : IsDigest (f (sampled s)) o.one
   pub ten : IsDigest (repeated 10 f (sampled s)) o.ten
   pub back : IsDigest (g (sampled s)) o.back
+  pub leads_home : repeated 10 g (repeated 10 f (sampled s)) ≡ sampled s
   pub home : o.home ≡ true

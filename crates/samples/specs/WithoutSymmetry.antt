@@ -1,4 +1,4 @@
--- Tables without symmetry.
+-- Two tables and a rule without symmetry.
 --     lopsided v       entry number v of the sample block table
 --     lopsided_back    the inverse of that table
 --     cycle v          entry number v of the sample cell table

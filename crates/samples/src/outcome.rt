@@ -21,7 +21,7 @@ pub struct Outcome {
     pub one: Digest,
     pub ten: Digest,
     pub back: Digest,
-    // Whether ten moves back from there lead home again.
+    // Whether ten moves back, after the ten forward, lead home again.
     pub home: bool,
 }
 

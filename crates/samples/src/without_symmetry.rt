@@ -1,4 +1,4 @@
-// Tables without symmetry: a mistake that symmetry hides shows with them.
+// Two tables and a rule without symmetry: a mistake that symmetry hides shows with them.
 ghost use Rattle.std.specs.Prelude.{◌≡◌, map};
 ghost use Rattle.std.specs.List.{range_with_len};
 ghost use Rattle.rules.specs.Rules.{entries_of as rule_entries};

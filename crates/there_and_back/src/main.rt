@@ -24,7 +24,7 @@ const STEPS: u32 = 200;
 
 const LONG: u32 = 5000;
 
-fn answer(same: bool) -> &'static str
+fn yes_or_no(same: bool) -> &'static str
     ensures { result.now ≡ (if same then codes "yes" else codes "no") }
 {
     if same { "yes" } else { "no" }
@@ -46,10 +46,10 @@ fn journey(
     let turning = round_trip(map, STEPS, &mut start, &mut cells, &mut far);
     draw(rt, "farthest", &turning, &far)?;
     draw(rt, "last", &start, &cells)?;
-    let home = answer(cells == first && start == opening);
+    let home = yes_or_no(cells == first && start == opening);
     println!(rt; "the last lattice equals the first: {home}")?;
     round_trip(map, LONG, &mut start, &mut cells, &mut far);
-    let home = answer(cells == first && start == opening);
+    let home = yes_or_no(cells == first && start == opening);
     println!(rt; "and after {LONG} steps more, forward and back: {home}")?;
     Ok(())
 }

@@ -2,7 +2,7 @@
 ghost use Rattle.std.specs.Prelude.{◌≡◌, ◌<◌, IfOk};
 ghost use Rattle.lattice.specs.Cells.{by_place};
 ghost use Rattle.lattice.specs.Starts.{width_of, height_of};
-ghost use Rattle.there_and_back.specs.Scenes.{sown};
+ghost use Rattle.there_and_back.specs.Scenes.{scene_cell};
 
 use lattice::start::Start;
 use std::alloc::{AllocError, Allocator};
@@ -20,7 +20,7 @@ impl Scene {
     fn cell(self, x: usize, y: usize) -> u8
         requires column { x < 256 }
         requires row { y < 256 }
-        ensures { result ≡ sown self x y }
+        ensures { result ≡ scene_cell self x y }
     {
         let sown = match self {
             Scene::Soup => (16..32).contains(&x)
@@ -36,7 +36,7 @@ impl Scene {
         heap: A,
         start: &Start,
     ) -> Result<Vec<u8, A>, AllocError>
-        ensures { IfOk result (λ v. v.items ≡ by_place (width_of start.now) (height_of start.now) (sown self)) }
+        ensures { IfOk result (λ v. v.items ≡ by_place (width_of start.now) (height_of start.now) (scene_cell self)) }
     {
         let width = start.width();
         (0..start.cell_count())

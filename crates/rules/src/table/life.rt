@@ -1,5 +1,4 @@
 // The rule of Life, written out.
-ghost use Rattle.rules.specs.Bits.{AllBits};
 ghost use Rattle.rules.specs.Rules.{SameAnswers, entry_of, table_answer, life};
 
 use super::TableRule;
@@ -26,8 +25,7 @@ const LIFE: [u8; 512] = [
 
 // One computation over the whole table shows it to be Life's.
 fn written_out() -> [u8; 512]
-    ensures bits { AllBits result }
-    ensures answers { SameAnswers (entry_of result) life }
+    ensures { SameAnswers (entry_of result) life }
 {
     LIFE
 }
