@@ -5,7 +5,7 @@ use Rattle.std.proofs.Common.{◌≡◌, ℕ, ◌/◌, List, zero, suc, get_or, 
 use Rattle.lattice.specs.Cells.{cell, OnlyBelow}
 use Rattle.lattice.specs.EveryCell.{every_cell, each_cell}
 use Rattle.lattice.specs.Lattice.{Lattice, Whole, Within, Bytes, with_cells, if_whole}
-use Rattle.lattice.specs.Maps.{Keeps, Reversible, repeated}
+use Rattle.lattice.specs.Maps.{Keeps, repeated}
 use Rattle.lattice.specs.Starts.{held}
 use Rattle.lattice.specs.declared.start.Start.{Start}
 use Rattle.lattice.proofs.Places.{only_below_by_place}
