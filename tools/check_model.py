@@ -285,6 +285,7 @@ first = from_hex(4, 2, 0, "01 00 00 00  00 00 00 00")
 check("blocks of phase 1 reach round both edges", bbm.forward(last), first)
 check("back rewrites the blocks of the new phase", bbm.backward(first), last)
 check("a neighbour on both sides counts in each", model.neighbourhood_numbers(2, 2, [0, 1, 0, 0])[0], 40)
+check("cycle is undone by its inverse", model.inverse([1, 2, 3, 0]), [3, 0, 1, 2])
 seen_through_cycle = model.conjugate(model.LIFE2, model.cell_map([1, 2, 3, 0]))
 for phase in [0, 1]:
     check(

@@ -4,7 +4,8 @@ use Rattle.lattice.specs.Lattice.{Lattice}
 use Rattle.lattice.specs.Maps.{repeated}
 use Rattle.lattice.specs.Starts.{width_of, height_of, phase_of, held}
 use Rattle.lattice.specs.declared.start.Start.{Start}
-use Rattle.named_maps.specs.Examples.{ExamplesComeOut, square}
+use Rattle.tables.proofs.Tested.{inverted_by_test}
+use Rattle.named_maps.specs.Examples.{ExamplesComeOut, square, cycle, cycle_back}
 
 pub worked_examples : ExamplesComeOut
 worked_examples = record {
@@ -26,6 +27,7 @@ worked_examples = record {
   north_is_the_row_above = λ p. refl;
   a_neighbour_on_both_sides_counts_in_each = refl;
   life2_goes_back = λ p. refl;
+  cycle_is_undone_by_its_inverse = inverted_by_test 4 cycle cycle_back refl;
   a_conjugation_goes_in_first = λ p. refl;
 }
 

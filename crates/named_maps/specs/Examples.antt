@@ -7,15 +7,17 @@
 --     first_and_others c d   the cells of four by four that have c first, and d elsewhere
 --     complement_forward     the cell map of the table complement
 --     wide p cs              the lattice of four by two cells at phase p
---     lopsided               a block table that no turn and no reflection of the square keeps
---     cycle, cycle_back      a cell table that is not its own inverse, and that inverse
+--     lopsided               a block table that no turn and no reflection of the square keeps: entry v is the remainder of 7 v + 3 by 16
+--     cycle, cycle_back      the cell table that goes one number on, round the four, and the one that goes one back
 --     seen_through f         f as it looks through the cell map of cycle
 --     ExamplesComeOut        each example comes out as it was worked by hand
 --     Lands f n p cs q ds r  if there can be a start record of that square, and f leads from the square with cells cs at phase p to the one with cells ds at phase q, then r says so; cited by an inner function alone
-use Rattle.std.specs.Prelude.{◌≡◌, ℕ, Bool, true, List, [], ◌∷◌, None}
+use Rattle.std.specs.Prelude.{◌≡◌, ℕ, ◌+◌, ◌*◌, ◌%◌, Bool, true, List, [], ◌∷◌, map, None}
+use Rattle.std.specs.List.{range_with_len}
 use Rattle.lattice.specs.Lattice.{Lattice}
 use Rattle.lattice.specs.Maps.{repeated}
 use Rattle.lattice.specs.Refusals.{start_refusal}
+use Rattle.tables.specs.Inverses.{InvertedBy}
 use Rattle.tables.specs.Names.{complement}
 use Rattle.block_map.specs.Maps.{block_forward}
 use Rattle.cell_map.specs.Maps.{replaced, cell_moved}
@@ -54,13 +56,13 @@ abbrev pub wide : ℕ → List ℕ → Lattice
 wide p cs = record { width = 4; height = 2; phase = p; cells = cs }
 
 abbrev pub lopsided : List ℕ
-lopsided = 3 ∷ 10 ∷ 1 ∷ 8 ∷ 15 ∷ 6 ∷ 13 ∷ 4 ∷ 11 ∷ 2 ∷ 9 ∷ 0 ∷ 7 ∷ 14 ∷ 5 ∷ 12 ∷ []
+lopsided = map (λ v. (7 * v + 3) % 16) (range_with_len 0 16)
 
 abbrev pub cycle : List ℕ
-cycle = 1 ∷ 2 ∷ 3 ∷ 0 ∷ []
+cycle = map (λ v. (v + 1) % 4) (range_with_len 0 4)
 
 abbrev pub cycle_back : List ℕ
-cycle_back = 3 ∷ 0 ∷ 1 ∷ 2 ∷ []
+cycle_back = map (λ v. (v + 3) % 4) (range_with_len 0 4)
 
 abbrev pub seen_through : (Lattice → Lattice) → Lattice → Lattice
 seen_through f = between f (cell_moved cycle) (cell_moved cycle_back)
@@ -84,6 +86,7 @@ pub record ExamplesComeOut : Type 0 where
   pub north_is_the_row_above : (p : ℕ) → lift_forward (bit 1) (square 4 p (one_below_another 1 0)) ≡ square 4 p (one_below_another 2 1)
   pub a_neighbour_on_both_sides_counts_in_each : around 2 2 (presents 2 (0 ∷ 1 ∷ 0 ∷ 0 ∷ [])) 0 0 ≡ 40
   pub life2_goes_back : (p : ℕ) → life2_backward (square 4 p (in_the_corner 3)) ≡ square 4 p (in_the_corner 1)
+  pub cycle_is_undone_by_its_inverse : InvertedBy 4 cycle cycle_back
   pub a_conjugation_goes_in_first : (p : ℕ) → seen_through life2_forward (square 4 p (first_and_others 1 0)) ≡ square 4 p (first_and_others 0 1)
 
 abbrev pub Lands : (Lattice → Lattice) → ℕ → ℕ → List ℕ → ℕ → List ℕ → Bool → Type 0
