@@ -1,0 +1,77 @@
+-- What a reader gives is the first of the fields that are left on its line. Assumes nothing.
+use Rattle.std.proofs.Common.{◌≡◌, ℕ, ◌+◌, ◌<◌, List, [], ◌∷◌, ◌++◌, length, drop, true, false, Some, arith, sym, ◌∙◌, ap, slice_get, not}
+use Rattle.std.proofs.lemmas.List.{take-append-drop, length-take-le, drop-drop, append-nil}
+use Rattle.std.proofs.lemmas.List.Sums.{prefix_len-le-length}
+use Rattle.std.specs.List.{position_or_len, before_first}
+use Rattle.text.proofs.Cuts.{Free, free_before}
+use Rattle.text.proofs.LineFields.{inner, last, unfinished}
+use Rattle.text.specs.Fields.{bytes_of, ends_line_of, FirstOf}
+use Rattle.text.specs.Lines.{is_separator, first_line, below_first, fields}
+use Rattle.text.specs.Readers.{Gives, rest_of, text_of, position_of, line_of, fields_read_of}
+use Rattle.text.specs.declared.field.Field.{Field}
+use Rattle.text.specs.declared.field.Field.TheVariants.{Inner, Last, Unfinished}
+use Rattle.text.specs.declared.reader.Reader.{Reader}
+
+begins_with : (ys : List ℕ) (c : ℕ) → slice_get ys 0 ≡ Some c → ys ≡ c ∷ drop 1 ys
+begins_with [] c e = absurd cc
+begins_with (y ∷ ys) c e = cc
+
+-- a list is what stands before its first separator, and what begins there
+cut : (xs f : List ℕ) → f ≡ before_first is_separator xs → xs ≡ f ++ drop (length f) xs
+cut xs f e =
+    let n : ℕ = position_or_len is_separator xs in
+    let len : length f ≡ n = ap length e ∙ length-take-le n xs (prefix_len-le-length (λ x. not (is_separator x)) xs) in
+    rw (len, e) (sym (take-append-drop n xs))
+
+free_field : (xs f : List ℕ) → f ≡ before_first is_separator xs → Free is_separator f
+free_field xs f e = rw e (free_before is_separator xs)
+
+-- the same, where c ends the front, and rest is what stands behind it
+cut_at : (xs f rest : List ℕ) (c : ℕ) → f ≡ before_first is_separator xs → slice_get (drop (length f) xs) 0 ≡ Some c → rest ≡ drop (length f + 1) xs → xs ≡ f ++ (c ∷ rest)
+cut_at xs f rest c e ends behind =
+    let more : drop 1 (drop (length f) xs) ≡ rest = drop-drop 1 (length f) xs ∙ sym behind in
+    cut xs f e ∙ ap (λ r. f ++ r) (begins_with (drop (length f) xs) c ends ∙ ap (λ r. c ∷ r) more)
+
+-- where the next field begins
+rest_moved : (r s : Reader) (n : ℕ) → text_of s ≡ text_of r → position_of s ≡ position_of r + n → rest_of s ≡ drop n (rest_of r)
+rest_moved r s n t p = ap (λ x. drop (position_of s) x) t ∙ ap (λ k. drop k (text_of r)) p ∙ sym (drop-drop n (position_of r) (text_of r))
+
+pub first_field : (r : Reader) (f : Field) (s : Reader) → Gives r f s → FirstOf f (rest_of r) (rest_of s)
+first_field r (Inner b p) s g =
+    let moved : rest_of s ≡ drop (length b.now + 1) (rest_of r) = rest_moved r s (length b.now + 1) g.text (omega (arith, g.moves.0)) in
+    rw (cut_at (rest_of r) b.now (rest_of s) 9 g.bytes g.ends moved) (inner b.now (rest_of s) (free_field (rest_of r) b.now g.bytes))
+first_field r (Last b p) s g =
+    let moved : rest_of s ≡ drop (length b.now + 1) (rest_of r) = rest_moved r s (length b.now + 1) g.text (omega (arith, g.moves.0)) in
+    rw (cut_at (rest_of r) b.now (rest_of s) 10 g.bytes g.ends moved) (last b.now (rest_of s) (free_field (rest_of r) b.now g.bytes))
+first_field r (Unfinished b p) s g =
+    let moved : rest_of s ≡ drop (length b.now) (rest_of r) = rest_moved r s (length b.now) g.text g.moves.0 in
+    let all : rest_of r ≡ b.now = cut (rest_of r) b.now g.bytes ∙ ap (λ x. b.now ++ x) g.ends ∙ append-nil b.now in
+    let line = unfinished b.now (free_field (rest_of r) b.now g.bytes) in
+    rw all (line.0, line.1 ∙ sym (moved ∙ g.ends))
+
+-- reading a field f leads r to s, on the same line
+pub record GoesOn (r : Reader) (f : Field) (s : Reader) : Type 0 where
+  pub fields : fields (first_line (rest_of r)) ≡ bytes_of f ∷ fields (first_line (rest_of s))
+  pub below : below_first (rest_of s) ≡ below_first (rest_of r)
+  pub text : text_of s ≡ text_of r
+  pub line : line_of s ≡ line_of r
+  pub fields_read : fields_read_of s ≡ fields_read_of r + 1
+  pub further : position_of r < position_of s
+
+-- the same to the next line
+pub record EndsLine (r : Reader) (f : Field) (s : Reader) : Type 0 where
+  pub fields : fields (first_line (rest_of r)) ≡ bytes_of f ∷ []
+  pub below : rest_of s ≡ below_first (rest_of r)
+  pub text : text_of s ≡ text_of r
+  pub line : line_of s ≡ line_of r + 1
+  pub fields_read : fields_read_of s ≡ 0
+
+pub goes_on : (r : Reader) (f : Field) (s : Reader) → Gives r f s → FirstOf f (rest_of r) (rest_of s) → ends_line_of f ≡ false → GoesOn r f s
+goes_on r (Inner b p) s g first e = record { fields = first.0; below = sym first.1; text = g.text; line = g.moves.1; fields_read = g.moves.2; further = omega (arith, g.moves.0) }
+goes_on r (Last b p) s g first e = absurd cc
+goes_on r (Unfinished b p) s g first e = absurd cc
+
+pub ends_line : (r : Reader) (f : Field) (s : Reader) → Gives r f s → FirstOf f (rest_of r) (rest_of s) → ends_line_of f ≡ true → EndsLine r f s
+ends_line r (Inner b p) s g first e = absurd cc
+ends_line r (Last b p) s g first e = record { fields = first.0; below = sym first.1; text = g.text; line = g.moves.1; fields_read = g.moves.2 }
+ends_line r (Unfinished b p) s g first e = record { fields = first.0; below = sym first.1; text = g.text; line = g.moves.1; fields_read = g.moves.2 }

@@ -1,0 +1,10 @@
+use Rattle.std.proofs.Common.{◌≡◌, Some, refl}
+use Rattle.text.specs.Fields.{bytes_of}
+use Rattle.text.specs.Numbers.{signed_of}
+use Rattle.text.proofs.Written.{signed_written}
+use Rattle.text.proofs.field.Field.signed.Goals as goal
+
+pub returns-clause-written : goal.returns-clause-written
+returns-clause-written c z w =
+    let e : signed_of (bytes_of c.args.self.now) ≡ Some z = signed_written _ z w in
+    rw (c.ok_or.ensures.value, c.signed.ensures, c.bytes.ensures, e) refl

@@ -1,0 +1,37 @@
+-- A field as a reader gives it.
+--     bytes_of f     its bytes
+--     place_of f     its line and its number on that line
+--     ends_line_of f  no other field follows on its line
+--     EndsAt f bs    what ends f is what bs, the bytes behind it, begins with: a tab, a newline, or nothing
+--     FirstOf f bs more   f is the first of the fields that bs has left on its line. If it is the last, too, more is what stands below the
+--                         line; else it has the other fields of the line left
+use Rattle.std.specs.Prelude.{◌≡◌, ℕ, Bool, true, false, List, [], ◌∷◌, Some, slice_get}
+use Rattle.faults.specs.declared.place.Place.{Place}
+use Rattle.text.specs.Lines.{first_line, below_first, fields}
+use Rattle.text.specs.declared.field.Field.{Field}
+use Rattle.text.specs.declared.field.Field.TheVariants.{Inner, Last, Unfinished}
+
+abbrev pub bytes_of : Field → List ℕ
+bytes_of (Inner b p) = b.now
+bytes_of (Last b p) = b.now
+bytes_of (Unfinished b p) = b.now
+
+abbrev pub place_of : Field → Place
+place_of (Inner b p) = p
+place_of (Last b p) = p
+place_of (Unfinished b p) = p
+
+abbrev pub ends_line_of : Field → Bool
+ends_line_of (Inner b p) = false
+ends_line_of (Last b p) = true
+ends_line_of (Unfinished b p) = true
+
+abbrev pub EndsAt : Field → List ℕ → Type 0
+EndsAt (Inner b p) bs = slice_get bs 0 ≡ Some 9
+EndsAt (Last b p) bs = slice_get bs 0 ≡ Some 10
+EndsAt (Unfinished b p) bs = bs ≡ []
+
+abbrev pub FirstOf : Field → List ℕ → List ℕ → Type 0
+FirstOf (Inner b p) bs more = (fields (first_line bs) ≡ b.now ∷ fields (first_line more)) × (below_first bs ≡ below_first more)
+FirstOf (Last b p) bs more = (fields (first_line bs) ≡ b.now ∷ []) × (below_first bs ≡ more)
+FirstOf (Unfinished b p) bs more = (fields (first_line bs) ≡ b.now ∷ []) × (below_first bs ≡ more)

@@ -1,0 +1,43 @@
+-- A line as a reader gives it.
+--     word_of l              the first field of the line l
+--     Stands f n k           the field f is number k on line n
+--     StandsFrom l n k       the fields of l that are kept stand on line n, from number k on
+--     HasFields l fs         fs are the fields of l
+--     GivesLine r l s        r has the line l left, and is then s: at the beginning of the next line
+use Rattle.std.specs.Prelude.{◌≡◌, ◌≢◌, ℕ, ◌+◌, List, [], ◌∷◌, length}
+use Rattle.text.specs.Fields.{bytes_of, place_of}
+use Rattle.text.specs.Lines.{first_line, below_first, fields}
+use Rattle.text.specs.Readers.{text_of, rest_of, line_of, fields_read_of}
+use Rattle.text.specs.declared.field.Field.{Field}
+use Rattle.text.specs.declared.line.Line.{Line}
+use Rattle.text.specs.declared.line.Line.TheVariants.{One, Two, Four, Other}
+use Rattle.text.specs.declared.reader.Reader.{Reader}
+
+abbrev pub word_of : Line → Field
+word_of (One a) = a
+word_of (Two a b) = a
+word_of (Four a b c d) = a
+word_of (Other a) = a
+
+abbrev pub Stands : Field → ℕ → ℕ → Type 0
+Stands f n k = ((place_of f).line ≡ n) × ((place_of f).field ≡ k)
+
+abbrev pub StandsFrom : Line → ℕ → ℕ → Type 0
+StandsFrom (One a) n k = Stands a n k
+StandsFrom (Two a b) n k = Stands a n k × Stands b n (k + 1)
+StandsFrom (Four a b c d) n k = Stands a n k × Stands b n (k + 1) × Stands c n (k + 2) × Stands d n (k + 3)
+StandsFrom (Other a) n k = Stands a n k
+
+abbrev pub HasFields : Line → List (List ℕ) → Type 0
+HasFields (One a) fs = fs ≡ bytes_of a ∷ []
+HasFields (Two a b) fs = fs ≡ bytes_of a ∷ bytes_of b ∷ []
+HasFields (Four a b c d) fs = fs ≡ bytes_of a ∷ bytes_of b ∷ bytes_of c ∷ bytes_of d ∷ []
+HasFields (Other a) fs = ((more : List (List ℕ)) × (fs ≡ bytes_of a ∷ more)) × (length fs ≢ 1) × (length fs ≢ 2) × (length fs ≢ 4)
+
+pub record GivesLine (r : Reader) (l : Line) (s : Reader) : Type 0 where
+  pub fields : HasFields l (fields (first_line (rest_of r)))
+  pub stands : StandsFrom l (line_of r) (fields_read_of r + 1)
+  pub text : text_of s ≡ text_of r
+  pub rest : rest_of s ≡ below_first (rest_of r)
+  pub line : line_of s ≡ line_of r + 1
+  pub fields_read : fields_read_of s ≡ 0

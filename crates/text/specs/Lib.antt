@@ -1,0 +1,5 @@
+pub mod Fields
+pub mod FieldsOfLines
+pub mod Lines
+pub mod Numbers
+pub mod Readers

@@ -1,0 +1,79 @@
+// A line by the number of its fields.
+use crate::field::Field;
+use crate::reader::Reader;
+
+// Lines of scripts, boards and jobs have one field, two or four.
+#[derive(Clone, Copy, Debug)]
+pub enum Line<'t> {
+    One(Field<'t>),
+    Two(Field<'t>, Field<'t>),
+    Four(Field<'t>, Field<'t>, Field<'t>, Field<'t>),
+    // another number of fields, of which this is the first
+    Other(Field<'t>),
+}
+
+impl<'t> Line<'t> {
+    ghost use Rattle.std.specs.Prelude.{◌≡◌};
+    ghost use Rattle.text.specs.FieldsOfLines.{word_of};
+
+    // The first field.
+    pub fn word(&self) -> Field<'t>
+        ensures { result ≡ word_of self.now }
+    {
+        match *self {
+            Line::One(word) | Line::Two(word, _) | Line::Four(word, _, _, _) | Line::Other(word) =>
+                { word }
+        }
+    }
+}
+
+impl<'t> Reader<'t> {
+    ghost use Rattle.std.specs.Prelude.{◌≡◌, ◌+◌, ◌<◌, ◌↔◌, IfNone, IfSome, IsNone, length};
+    ghost use Rattle.text.specs.FieldsOfLines.{GivesLine};
+    ghost use Rattle.text.specs.Lines.{first_line, below_first, fields};
+    ghost use Rattle.text.specs.Readers.{AtEnd, text_of, rest_of, line_of, fields_read_of};
+
+    // Goes to the beginning of the next line, from behind a tab.
+    #[tactic(auto, using(crate::proofs::FirstFields::goes_on, crate::proofs::FirstFields::ends_line, crate::proofs::LineFields::some_field))]
+    fn skip_line(&mut self)
+        requires { 0 < fields_read_of self.old }
+        ensures text { text_of self.new ≡ text_of self.old }
+        ensures rest { rest_of self.new ≡ below_first (rest_of self.old) }
+        ensures line { line_of self.new ≡ line_of self.old + 1 }
+        ensures some { 0 < length (fields (first_line (rest_of self.old))) }
+        ensures fields { fields_read_of self.new ≡ 0 }
+    {
+        while let Some(field) = self.next_field() {
+            if field.ends_line() {
+                return;
+            }
+        }
+    }
+
+    // What is left of this line, or the next line as a whole.
+    #[tactic(auto, using(crate::proofs::FirstFields::goes_on, crate::proofs::FirstFields::ends_line, crate::proofs::LineFields::longer))]
+    pub fn next_line(&mut self) -> Option<Line<'t>>
+        ensures given { IfSome result (λ l. GivesLine self.old l self.new) }
+        ensures end { IsNone result ↔ AtEnd self.old }
+        ensures same { IfNone result (self.new ≡ self.old) }
+    {
+        let word = self.next_field()?;
+        if word.ends_line() {
+            return Some(Line::One(word));
+        }
+        let second = self.next_field()?;
+        if second.ends_line() {
+            return Some(Line::Two(word, second));
+        }
+        let third = self.next_field()?;
+        if third.ends_line() {
+            return Some(Line::Other(word));
+        }
+        let fourth = self.next_field()?;
+        if fourth.ends_line() {
+            return Some(Line::Four(word, second, third, fourth));
+        }
+        self.skip_line();
+        Some(Line::Other(word))
+    }
+}

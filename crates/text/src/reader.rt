@@ -1,0 +1,111 @@
+// A reader that goes over a text in place, field by field.
+ghost use Rattle.std.specs.Prelude.{◌≡◌, ◌+◌, ◌≤◌, ◌<◌, ◌^◌, length};
+ghost use Rattle.std.specs.List.{position_or_len};
+ghost use Rattle.text.specs.Lines.{is_separator};
+
+use crate::field::Field;
+use faults::place::Place;
+
+#[derive(Clone, Copy, Debug)]
+pub struct Reader<'t> {
+    text: &'t [u8],
+    // how many bytes were read
+    position: usize,
+    // the line of the next field
+    line: usize,
+    // how many fields of that line were read
+    fields_read: usize,
+    ghost within: { position ≤ length text.now },
+    ghost few: { line + fields_read < position + 2 ^ 32 },
+}
+
+// How many bytes stand before the first tab or newline, or in all where there is none.
+#[tactic(auto, using(std::proofs::lemmas::List::Sums::position_or_len_is, crate::proofs::Separators::no_separator))]
+fn field_len(bytes: &[u8]) -> usize
+    ensures value { result ≡ position_or_len is_separator bytes.now }
+    ensures within { result ≤ length bytes.now }
+{
+    for (index, byte) in bytes.iter().enumerate() {
+        if *byte == b'\t' || *byte == b'\n' {
+            return index;
+        }
+    }
+    bytes.len()
+}
+
+impl<'t> Reader<'t> {
+    ghost use Rattle.std.specs.Prelude.{IfNone, IfSome, IsNone, ◌↔◌, []};
+    ghost use Rattle.text.specs.Fields.{FirstOf};
+    ghost use Rattle.text.specs.Readers.{text_of, position_of, line_of, fields_read_of, rest_of, AtEnd, Gives};
+
+    // At the beginning of the text.
+    pub fn new(text: &'t [u8], first_line: u32) -> Reader<'t>
+        ensures text { text_of result ≡ text.now }
+        ensures position { position_of result ≡ 0 }
+        ensures line { line_of result ≡ first_line }
+        ensures fields { fields_read_of result ≡ 0 }
+    {
+        Reader {
+            text,
+            position: 0,
+            line: first_line as usize,
+            fields_read: 0,
+        }
+    }
+
+    // How many bytes were read.
+    pub fn position(&self) -> usize
+        ensures { result ≡ position_of self.now }
+    {
+        self.position
+    }
+
+    // The line of the next field.
+    pub fn line(&self) -> usize
+        ensures { result ≡ line_of self.now }
+    {
+        self.line
+    }
+
+    // The next field; none is given at the end, also if asked again.
+    #[tactic(auto, using(crate::proofs::FirstFields::first_field))]
+    pub fn next_field(&mut self) -> Option<Field<'t>>
+        ensures given { IfSome result (λ f. Gives self.old f self.new) }
+        ensures first { IfSome result (λ f. FirstOf f (rest_of self.old) (rest_of self.new)) }
+        ensures end { IsNone result ↔ AtEnd self.old }
+        ensures same { IfNone result (self.new ≡ self.old) }
+    {
+        self.take_field()
+    }
+
+    fn take_field(&mut self) -> Option<Field<'t>>
+        ensures given { IfSome result (λ f. Gives self.old f self.new) }
+        ensures end { IsNone result ↔ AtEnd self.old }
+        ensures same { IfNone result (self.new ≡ self.old) }
+    {
+        let rest = &self.text[self.position..];
+        if rest.is_empty() && self.fields_read == 0 {
+            return None;
+        }
+        let len = field_len(rest);
+        let bytes = &rest[..len];
+        let place = Place {
+            line: self.line,
+            field: self.fields_read + 1,
+        };
+        self.position += len;
+        if len == rest.len() {
+            self.line += 1;
+            self.fields_read = 0;
+            return Some(Field::Unfinished { bytes, place });
+        }
+        self.position += 1;
+        if rest[len] == b'\t' {
+            self.fields_read += 1;
+            return Some(Field::Inner { bytes, place });
+        }
+        self.line += 1;
+        self.fields_read = 0;
+        Some(Field::Last { bytes, place })
+    }
+}
