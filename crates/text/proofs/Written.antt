@@ -32,6 +32,7 @@ zero_written : (n : ℕ) → n ≡ 0 → decimal n ≡ 48 ∷ []
 zero_written n z = rw z (decimal_digit 0 (omega arith))
 
 pub number_read : (bs : List ℕ) (n : ℕ) → number_of bs ≡ Some n → WritesNumber n bs
+unfolding number_of
 number_read bs n e =
     let yes : is_number bs ≡ true = grind arith in
     let same : digits_value 10 bs ≡ n = grind arith in
@@ -56,6 +57,7 @@ number_of_decimal n small =
     )
 
 pub number_written : (bs : List ℕ) (n : ℕ) → WritesNumber n bs → number_of bs ≡ Some n
+unfolding number_of
 number_written bs n w =
     let facts = number_of_decimal n w.0 in
     let yes : is_number (decimal n) ≡ true = is_number_from (decimal n) facts.0 facts.1 in
@@ -90,6 +92,7 @@ signed_read_at bs z false m e =
     rw n.2 w
 
 pub signed_read : (bs : List ℕ) (z : ℤ) → signed_of bs ≡ Some z → WritesSigned z bs
+unfolding signed_of
 signed_read bs z e = signed_read_at bs z (eqb (get_or bs 0 0) 45) refl e
 
 -- no number has a minus in front
@@ -100,6 +103,7 @@ no_minus n small =
     grind (arith, nat_tests)
 
 signed_of_written : (z : ℤ) → unsigned_abs z ≤ max_number → signed_of (signed_decimal z) ≡ Some z
+unfolding signed_of
 signed_of_written (pos n) small = rw (no_minus n small, number_written (decimal n) n (small, refl)) refl
 signed_of_written (negsuc n) small = rw (number_written (decimal (suc n)) (suc n) (small, refl), not_zero n) refl
 

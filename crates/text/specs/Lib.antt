@@ -3,3 +3,4 @@ pub mod FieldsOfLines
 pub mod Lines
 pub mod Numbers
 pub mod Readers
+pub mod Wholes

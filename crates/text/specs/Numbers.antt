@@ -22,7 +22,7 @@ max_number = 999999
 abbrev pub is_number : List ℕ → Bool
 is_number bs = list_all is_ascii_digit bs && nat_lt 0 (length bs) && nat_le (length bs) max_digits && (nat_lt 48 (slice_index bs 0) || length bs == 1)
 
-abbrev pub number_of : List ℕ → Option ℕ
+unfoldable pub number_of : List ℕ → Option ℕ
 number_of bs = if is_number bs then Some (digits_value 10 bs) else None
 
 -- minus that number, if there is one and it is not 0
@@ -30,7 +30,7 @@ abbrev pub negative_of : Option ℕ → Option ℤ
 negative_of None = None
 negative_of (Some n) = if n == 0 then None else Some (neg_ℤ (pos n))
 
-abbrev pub signed_of : List ℕ → Option ℤ
+unfoldable pub signed_of : List ℕ → Option ℤ
 signed_of bs = if slice_index bs 0 == 45 then negative_of (number_of (drop 1 bs)) else option_map pos (number_of bs)
 
 abbrev pub WritesNumber : ℕ → List ℕ → Type 0

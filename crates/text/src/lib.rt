@@ -5,3 +5,4 @@ pub mod field;
 pub mod line;
 pub mod number;
 pub mod reader;
+pub mod whole;

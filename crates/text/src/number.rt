@@ -5,7 +5,7 @@ ghost use Rattle.text.specs.Numbers.{number_of, signed_of, max_number};
 const MAX_DIGITS: usize = 6;
 
 // One to six decimal digits; a 0 in front only if it is all.
-#[tactic(auto, using(crate::proofs::Digits::value_small, crate::proofs::Digits::digits_more, crate::proofs::Digits::value_more, crate::proofs::Digits::value_below))]
+#[tactic(auto, using(crate::proofs::Digits::value_small, crate::proofs::Digits::digits_more, crate::proofs::Digits::value_more, crate::proofs::Digits::value_below), unfolding(crate::specs::Numbers::number_of))]
 pub(crate) fn number(bytes: &[u8]) -> Option<u32>
     ensures value { result ≡ number_of bytes.now }
     ensures small { IfSome result (λ n. n ≤ max_number) }
@@ -25,6 +25,7 @@ pub(crate) fn number(bytes: &[u8]) -> Option<u32>
 }
 
 // The same, where a minus may stand in front, but not in front of `0`.
+#[tactic(auto, unfolding(crate::specs::Numbers::signed_of, crate::specs::Numbers::number_of))]
 pub(crate) fn signed(bytes: &[u8]) -> Option<i32>
     ensures { result ≡ signed_of bytes.now }
 {

@@ -1,0 +1,37 @@
+-- A reader of records, and what it gives.
+--     reader_of r, state_of r     the reader of its fields, and the state that the records before have led to
+--     left_of r                   the records that are left to read, or the first fault
+--     RecordGiven r a s           r answers a, and is then s
+use Rattle.std.specs.Prelude.{◌≡◌, ◌+◌, ◌<◌, length, List, [], Option, Some, None, Result, Ok, Err}
+use Rattle.faults.specs.declared.record.RecordFault.{RecordFault}
+use Rattle.text.specs.Lines.{below_first, lines}
+use Rattle.text.specs.Readers.{text_of, line_of, rest_of}
+use Rattle.text.specs.declared.reader.Reader.{Reader}
+use Rattle.scripts.specs.Judgements.{records_from, in_front}
+use Rattle.scripts.specs.Records.{kind_of}
+use Rattle.scripts.specs.States.{after}
+use Rattle.scripts.specs.declared.record.Record.{Record}
+use Rattle.scripts.specs.declared.records.Records.{Records}
+use Rattle.scripts.specs.declared.state.State.{State}
+
+abbrev pub reader_of : Records → Reader
+reader_of r = r.reader
+
+abbrev pub state_of : Records → State
+state_of r = r.state
+
+abbrev pub left_of : Records → Result (List Record) RecordFault
+left_of r = records_from (state_of r) (line_of (reader_of r)) (lines (rest_of (reader_of r)))
+
+-- there was a line, the reader has gone on behind it, and the state by the record x
+pub record GoneOn (r : Records) (x : Record) (s : Records) : Type 0 where
+  pub some : 0 < length (rest_of (reader_of r))
+  pub text : text_of (reader_of s) ≡ text_of (reader_of r)
+  pub rest : rest_of (reader_of s) ≡ below_first (rest_of (reader_of r))
+  pub line : line_of (reader_of s) ≡ line_of (reader_of r) + 1
+  pub state : state_of s ≡ after (state_of r) (kind_of x)
+
+abbrev pub RecordGiven : Records → Result (Option Record) RecordFault → Records → Type 0
+RecordGiven r (Ok (Some x)) s = (left_of r ≡ in_front x (left_of s)) × GoneOn r x s
+RecordGiven r (Ok None) s = (left_of r ≡ Ok []) × (rest_of (reader_of r) ≡ []) × (s ≡ r)
+RecordGiven r (Err e) s = (left_of r ≡ Err e) × (s ≡ r)

@@ -1,0 +1,33 @@
+// The records of a script.
+use crate::word::Word;
+
+#[derive(Clone, Copy, PartialEq, Eq, Debug)]
+pub enum Record {
+    Step(i32),
+    Undo,
+    Redo,
+    Open,
+    Flip { col: u32, row: u32, mask: u32 },
+    Clear,
+    Close,
+}
+
+impl Record {
+    ghost use Rattle.std.specs.Prelude.{◌≡◌};
+    ghost use Rattle.scripts.specs.Records.{kind_of};
+
+    // The word that the record begins with.
+    pub fn word(&self) -> Word
+        ensures { result ≡ kind_of self.now }
+    {
+        match self {
+            Record::Step(_) => Word::Step,
+            Record::Undo => Word::Undo,
+            Record::Redo => Word::Redo,
+            Record::Open => Word::Open,
+            Record::Flip { .. } => Word::Flip,
+            Record::Clear => Word::Clear,
+            Record::Close => Word::Close,
+        }
+    }
+}

@@ -1,0 +1,32 @@
+// The words that records begin with.
+ghost use Rattle.std.specs.Prelude.{◌≡◌};
+ghost use Rattle.scripts.specs.Words.{word_of};
+
+#[derive(Clone, Copy, PartialEq, Eq, Debug)]
+pub enum Word {
+    Step,
+    Undo,
+    Redo,
+    Open,
+    Flip,
+    Clear,
+    Close,
+}
+
+impl Word {
+    // The word that is spelled so.
+    pub fn of(bytes: &[u8]) -> Option<Word>
+        ensures { result ≡ word_of bytes.now }
+    {
+        match bytes {
+            b"step" => Some(Word::Step),
+            b"undo" => Some(Word::Undo),
+            b"redo" => Some(Word::Redo),
+            b"open" => Some(Word::Open),
+            b"flip" => Some(Word::Flip),
+            b"clear" => Some(Word::Clear),
+            b"close" => Some(Word::Close),
+            _ => None,
+        }
+    }
+}
