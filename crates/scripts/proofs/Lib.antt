@@ -1,1 +1,6 @@
+pub mod Judged
 pub mod Lefts
+pub mod ScriptFaults
+pub mod ScriptLaws
+pub mod ScriptLines
+pub mod Words

@@ -4,5 +4,6 @@
 pub mod check;
 pub mod record;
 pub mod records;
+pub mod run;
 pub mod state;
 pub mod word;

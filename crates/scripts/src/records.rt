@@ -67,15 +67,20 @@ pub struct Records<'t> {
 
 impl<'t> Records<'t> {
     ghost use Rattle.text.specs.Readers.{text_of, line_of, position_of};
-    ghost use Rattle.scripts.specs.Reading.{reader_of, state_of, RecordGiven};
+    ghost use Rattle.scripts.specs.Reading.{reader_of, state_of, left_of, RecordGiven};
+    ghost use Rattle.scripts.specs.Laws.{Reads};
+    ghost use Rattle.scripts.specs.declared.record.Record.{Record};
     ghost use Rattle.scripts.specs.declared.state.State.TheVariants.{Rest};
 
     // At the beginning of the text, and at rest.
+    #[tactic(auto, using(crate::proofs::ScriptLaws::reads_itself))]
     pub fn new(text: &'t [u8], first_line: u32) -> Records<'t>
         ensures text { text_of (reader_of result) ≡ text.now }
         ensures position { position_of (reader_of result) ≡ 0 }
         ensures line { line_of (reader_of result) ≡ first_line }
         ensures state { state_of result ≡ Rest }
+        // what is written of records is read as these
+        ensures written { (rs : List Record) → Reads Rest rs Rest text.now → left_of result ≡ Ok rs }
     {
         Records {
             reader: Reader::new(text, first_line),

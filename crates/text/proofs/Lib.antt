@@ -1,6 +1,8 @@
 pub mod Cuts
 pub mod Digits
+pub mod EndedLines
 pub mod FirstFields
+pub mod FreeNumbers
 pub mod LineFields
 pub mod LinesLeft
 pub mod Separators

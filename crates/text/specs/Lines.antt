@@ -4,9 +4,11 @@
 --     first_line bs              the bytes of bs before its first newline, or all where there is none
 --     below_first bs             what stands behind that newline
 --     lines bs                   all lines of bs. What stands behind the last newline is a line, too, where it is not empty
+--     ended l                    the line l and its newline
+--     parted fs                  the fields fs with a tab between each two of them
 --     fields l                   the fields of the line l. There is always one, and one more for each tab
-use Rattle.std.specs.Prelude.{ℕ, ◌==◌, ◌||◌, Bool, List, [], ◌∷◌, if◌then◌else◌, length}
-use Rattle.std.specs.List.{slice_split, before_first, after_first}
+use Rattle.std.specs.Prelude.{ℕ, ◌==◌, ◌||◌, Bool, List, [], ◌∷◌, ◌++◌, if◌then◌else◌, length}
+use Rattle.std.specs.List.{slice_split, before_first, after_first, join_with_byte}
 
 abbrev pub is_tab : ℕ → Bool
 is_tab b = b == 9
@@ -34,3 +36,9 @@ lines bs = lines_of_pieces (slice_split is_newline bs)
 
 abbrev pub fields : List ℕ → List (List ℕ)
 fields l = slice_split is_tab l
+
+abbrev pub ended : List ℕ → List ℕ
+ended l = l ++ (10 ∷ [])
+
+abbrev pub parted : List (List ℕ) → List ℕ
+parted fs = join_with_byte 9 fs

@@ -1,0 +1,25 @@
+// What a run of a script asks before its first record.
+ghost use Rattle.std.specs.Prelude.{◌≡◌};
+ghost use Rattle.scripts.specs.Runs.{run_check};
+
+use crate::check::check;
+use faults::run::{BenchRefusal, RunFault};
+use lattice::start::Start;
+
+// The cells make a whole lattice, and the text is a script: so many records has it.
+pub fn check_run(
+    start: &Start,
+    cells: &[u8],
+    text: &[u8],
+    first_line: u32,
+) -> Result<usize, RunFault>
+    ensures { result ≡ run_check start.now cells.now first_line text.now }
+{
+    if !start.is_whole(cells) {
+        return Err(RunFault::Bench {
+            cause: BenchRefusal::Cells,
+            line: 0,
+        });
+    }
+    Ok(check(text, first_line)?)
+}
