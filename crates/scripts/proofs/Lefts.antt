@@ -2,7 +2,7 @@
 use Rattle.std.proofs.Common.{◌≡◌, ℕ, ◌+◌, ◌<◌, List, [], ◌∷◌, length, Ok, Err, Result, refl, ap, ◌∙◌, sym, arith, subst}
 use Rattle.faults.specs.Results.{◌>>=◌}
 use Rattle.faults.specs.declared.record.RecordFault.{RecordFault}
-use Rattle.text.proofs.LinesLeft.{lines_cons}
+use Rattle.text.proofs.LinesLeft.{some_left, lines_after}
 use Rattle.text.specs.FieldsOfLines.{GivesLine, HasFields, StandsFrom}
 use Rattle.text.specs.Lines.{first_line, below_first, lines, fields}
 use Rattle.text.specs.Readers.{AtEnd, line_of, rest_of, fields_read_of}
@@ -13,10 +13,6 @@ use Rattle.scripts.specs.Records.{kind_of}
 use Rattle.scripts.specs.States.{after}
 use Rattle.scripts.specs.declared.record.Record.{Record}
 use Rattle.scripts.specs.declared.state.State.{State}
-
-pub some_left : (bs : List ℕ) → (bs ≡ [] → ⊥) → 0 < length bs
-some_left [] none = absurd (none refl)
-some_left (b ∷ bs) none = omega arith
 
 -- r answered a to the line l, whatever its fields and its place
 abbrev pub Judges : State → Line → Result Record RecordFault → Type 0
@@ -30,14 +26,11 @@ judged_there r l t s a begins gives judges =
 
 pub left_ok : (r : Reader) (l : Line) (t : Reader) (s : State) (x : Record) → fields_read_of r ≡ 0 → (AtEnd r → ⊥) → GivesLine r l t → Judges s l (Ok x) → records_from s (line_of r) (lines (rest_of r)) ≡ in_front x (records_from (after s (kind_of x)) (line_of t) (lines (rest_of t)))
 left_ok r l t s x begins going gives judges =
-    let some : 0 < length (rest_of r) = some_left (rest_of r) (λ e. going (e, begins)) in
     let is : judged s (line_of r) (fields (first_line (rest_of r))) ≡ Ok x = judged_there r l t s (Ok x) begins gives judges in
-    ap (records_from s (line_of r)) (lines_cons (rest_of r) some) ∙ ap (λ a. a >>= λ y. in_front y (records_from (after s (kind_of y)) (line_of r + 1) (lines (below_first (rest_of r))))) is
-    ∙ ap (λ bs. in_front x (records_from (after s (kind_of x)) (line_of r + 1) (lines bs))) (sym gives.rest)
+    ap (records_from s (line_of r)) (lines_after r l t begins going gives) ∙ ap (λ a. a >>= λ y. in_front y (records_from (after s (kind_of y)) (line_of r + 1) (lines (rest_of t)))) is
     ∙ ap (λ n. in_front x (records_from (after s (kind_of x)) n (lines (rest_of t)))) (sym gives.line)
 
 pub left_err : (r : Reader) (l : Line) (t : Reader) (s : State) (e : RecordFault) → fields_read_of r ≡ 0 → (AtEnd r → ⊥) → GivesLine r l t → Judges s l (Err e) → records_from s (line_of r) (lines (rest_of r)) ≡ Err e
 left_err r l t s e begins going gives judges =
-    let some : 0 < length (rest_of r) = some_left (rest_of r) (λ z. going (z, begins)) in
     let is : judged s (line_of r) (fields (first_line (rest_of r))) ≡ Err e = judged_there r l t s (Err e) begins gives judges in
-    ap (records_from s (line_of r)) (lines_cons (rest_of r) some) ∙ ap (λ a. a >>= λ y. in_front y (records_from (after s (kind_of y)) (line_of r + 1) (lines (below_first (rest_of r))))) is
+    ap (records_from s (line_of r)) (lines_after r l t begins going gives) ∙ ap (λ a. a >>= λ y. in_front y (records_from (after s (kind_of y)) (line_of r + 1) (lines (rest_of t)))) is

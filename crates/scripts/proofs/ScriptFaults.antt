@@ -6,12 +6,12 @@ use Rattle.faults.specs.Results.{◌>>=◌}
 use Rattle.faults.specs.declared.record.RecordFault.{RecordFault}
 use Rattle.faults.specs.declared.record.RecordFault.TheVariants.{EndsInSession}
 use Rattle.text.proofs.Cuts.{Free}
+use Rattle.text.proofs.EndedLines.{ended_by_fields}
 use Rattle.text.specs.Lines.{is_newline, ended, fields}
 use Rattle.scripts.proofs.Judged.{judged_ok, judged_err, IsRecord}
-use Rattle.scripts.proofs.ScriptLines.{line_written}
 use Rattle.scripts.specs.Judgements.{judged, at_end, records_from, in_front}
 use Rattle.scripts.specs.Laws.{LineFault}
-use Rattle.scripts.specs.Records.{kind_of, written, script_of, Writable}
+use Rattle.scripts.specs.Records.{kind_of, fields_of, written, script_of, Writable}
 use Rattle.scripts.specs.States.{after, Leads}
 use Rattle.scripts.specs.declared.record.Record.{Record}
 use Rattle.scripts.specs.declared.state.State.{State}
@@ -74,7 +74,7 @@ below_first_line s n l ls r e is (inl f) =
       below = f.below;
       leads = (a.permitted, f.leads);
       writable = (a.writable, f.writable);
-      text = ap (λ x. x ++ flat_map ended ls) (line_written l r a.fields) ∙ ap (λ x. written r ++ x) f.text ∙ sym (append_assoc (written r) (script_of f.records) (ended f.line ++ f.below));
+      text = ap (λ x. x ++ flat_map ended ls) (ended_by_fields l (fields_of r) a.fields) ∙ ap (λ x. written r ++ x) f.text ∙ sym (append_assoc (written r) (script_of f.records) (ended f.line ++ f.below));
       one_line = f.one_line;
       fault = subst (λ (k : ℕ). LineFault f.state k (fields f.line) e) place f.fault;
     })
@@ -85,7 +85,7 @@ below_first_line s n l ls r e is (inr o) =
       records = r ∷ o.records;
       leads = (a.permitted, o.leads);
       writable = (a.writable, o.writable);
-      text = ap (λ x. x ++ flat_map ended ls) (line_written l r a.fields) ∙ ap (λ x. written r ++ x) o.text;
+      text = ap (λ x. x ++ flat_map ended ls) (ended_by_fields l (fields_of r) a.fields) ∙ ap (λ x. written r ++ x) o.text;
       fault = o.fault ∙ ap EndsInSession place;
     })
 

@@ -1,11 +1,10 @@
 -- The lines of a script: written records are read as themselves, and what is accepted was written. Assumes nothing.
 use Rattle.std.proofs.Common.{◌≡◌, ℕ, ◌+◌, List, [], ◌∷◌, ◌++◌, map, flat_map, Ok, Err, Result, refl, ◌∙◌, ap, sym, subst}
-use Rattle.std.proofs.lemmas.List.Splits.{join_with_byte-slice_split}
 use Rattle.std.specs.List.{AllByRecursion}
 use Rattle.faults.specs.Results.{◌>>=◌}
 use Rattle.faults.specs.declared.record.RecordFault.{RecordFault}
 use Rattle.text.proofs.Cuts.{Free}
-use Rattle.text.proofs.EndedLines.{lines_of_joined, fields_of_parted}
+use Rattle.text.proofs.EndedLines.{lines_of_joined, fields_of_parted, ended_by_fields}
 use Rattle.text.proofs.FreeNumbers.{decimal_free, signed_free}
 use Rattle.text.proofs.LineFields.{no_tab, no_newline}
 use Rattle.text.specs.Lines.{is_tab, is_newline, is_separator, lines, ended, parted, fields}
@@ -75,10 +74,6 @@ pub taken_lines : (s : State) (n : ℕ) (rs : List Record) → Leads s rs Rest �
 taken_lines s n [] leads w = rw leads refl
 taken_lines s n (r ∷ rs) leads w = rw (fields_of_line r w.0, judged_written s n r leads.0 w.0, taken_lines (after s (kind_of r)) (n + 1) rs leads.1 w.1) refl
 
--- a line and its newline are what its fields say
-pub line_written : (l : List ℕ) (r : Record) → fields l ≡ fields_of r → ended l ≡ written r
-line_written l r e = ap ended (sym (join_with_byte-slice_split 9 l) ∙ ap parted e)
-
 -- lines that are accepted
 pub record Accepted (s : State) (ls : List (List ℕ)) (rs : List Record) : Type 0 where
   pub leads : Leads s rs Rest
@@ -108,5 +103,5 @@ accepted_lines s n (l ∷ ls) rs e =
     subst (Accepted s (l ∷ ls)) (sym rest.2) (record {
       leads = (is.permitted, again.leads);
       writable = (is.writable, again.writable);
-      text = ap (λ x. x ++ flat_map ended ls) (line_written l r is.fields) ∙ ap (λ x. written r ++ x) again.text;
+      text = ap (λ x. x ++ flat_map ended ls) (ended_by_fields l (fields_of r) is.fields) ∙ ap (λ x. written r ++ x) again.text;
     })

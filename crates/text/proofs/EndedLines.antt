@@ -1,9 +1,10 @@
 -- A finished text is its lines, each with its newline. Assumes nothing.
-use Rattle.std.proofs.Common.{◌≡◌, ℕ, ◌+◌, ◌-◌, ◌<◌, ◌≤◌, suc, zero, List, [], ◌∷◌, ◌++◌, length, get_or, true, false, Bool, arith, refl, ◌∙◌, ap, sym, inl, inr, subst, flat_map, if◌then◌else◌, ◌==◌}
+use Rattle.std.proofs.Common.{◌≡◌, ℕ, ◌+◌, ◌-◌, ◌<◌, ◌≤◌, suc, zero, List, [], ◌∷◌, ◌++◌, length, drop, get_or, true, false, Bool, arith, refl, ◌∙◌, ap, sym, inl, inr, subst, flat_map, if◌then◌else◌, ◌==◌}
 use Rattle.std.proofs.lemmas.Bool.{cases_lt}
 use Rattle.std.proofs.lemmas.Bool.Decides.{nat_tests}
-use Rattle.std.proofs.lemmas.List.{get_or-append_right, get_or_at, length-append, append_assoc, append-nil}
+use Rattle.std.proofs.lemmas.List.{get_or-append_right, get_or_at, get_or-drop, length-drop, length-append, append_assoc, append-nil}
 use Rattle.std.proofs.lemmas.List.Sums.{split_at_first, passes_at_first, fails_before_first}
+use Rattle.std.proofs.lemmas.List.Splits.{join_with_byte-slice_split}
 use Rattle.std.specs.List.{position_or_len, AllByRecursion, slice_split, onto_first}
 use Rattle.text.proofs.Cuts.{Free, before_front, after_front, before_yes, after_yes, split_free, split_front}
 use Rattle.text.proofs.LinesLeft.{lines_cons}
@@ -69,17 +70,6 @@ lines_joined (suc fuel) (b ∷ bs) small e =
 pub text_is_its_lines : (bs : List ℕ) → finished bs ≡ true → bs ≡ flat_map ended (lines bs)
 text_is_its_lines bs e = lines_joined (length bs) bs (omega arith) e
 
--- lines that hold no newline are read back
-pub lines_of_joined : (ls : List (List ℕ)) → AllByRecursion (Free is_newline) ls → lines (flat_map ended ls) ≡ ls
-lines_of_joined [] free = refl
-lines_of_joined (l ∷ ls) free =
-    let rest : List ℕ = flat_map ended ls in
-    let same : ended l ++ rest ≡ l ++ (10 ∷ rest) = append_assoc l (10 ∷ []) rest in
-    let first : first_line (l ++ (10 ∷ rest)) ≡ l = before_front is_newline l (10 ∷ rest) free.0 ∙ ap (λ x. l ++ x) (before_yes is_newline 10 rest refl) ∙ append-nil l in
-    let below : below_first (l ++ (10 ∷ rest)) ≡ rest = after_front is_newline l (10 ∷ rest) free.0 ∙ after_yes is_newline 10 rest refl in
-    let some : 0 < length (l ++ (10 ∷ rest)) = omega (arith, length-append l (10 ∷ rest)) in
-    ap lines same ∙ lines_cons (l ++ (10 ∷ rest)) some ∙ ap (λ x. x ∷ lines (below_first (l ++ (10 ∷ rest)))) first ∙ ap (λ x. l ∷ lines x) below ∙ ap (λ x. l ∷ x) (lines_of_joined ls free.1)
-
 -- no line holds a newline
 onto_free : (p : ℕ → Bool) (b : ℕ) (ps : List (List ℕ)) → p b ≡ false → AllByRecursion (Free p) ps → AllByRecursion (Free p) (onto_first b ps)
 onto_free p b [] misses free = ((misses, tt), tt)
@@ -130,3 +120,29 @@ finished_front f (b ∷ more) e = finished_from (f ++ (10 ∷ b ∷ more)) (λ s
 pub finished_joined : (ls : List (List ℕ)) → finished (flat_map ended ls) ≡ true
 finished_joined [] = refl
 finished_joined (l ∷ ls) = ap finished (append_assoc l (10 ∷ []) (flat_map ended ls)) ∙ finished_front l (flat_map ended ls) (finished_joined ls)
+
+-- a line and its newline are what its fields say
+pub ended_by_fields : (l : List ℕ) (fs : List (List ℕ)) → fields l ≡ fs → ended l ≡ ended (parted fs)
+ended_by_fields l fs e = ap ended (sym (join_with_byte-slice_split 9 l) ∙ ap parted e)
+
+-- lines in front of more are read back
+pub lines_of_front : (ls : List (List ℕ)) (more : List ℕ) → AllByRecursion (Free is_newline) ls → lines (flat_map ended ls ++ more) ≡ ls ++ lines more
+lines_of_front [] more free = refl
+lines_of_front (l ∷ ls) more free =
+    let rest : List ℕ = flat_map ended ls ++ more in
+    let same : (ended l ++ flat_map ended ls) ++ more ≡ l ++ (10 ∷ rest) = append_assoc (ended l) (flat_map ended ls) more ∙ append_assoc l (10 ∷ []) rest in
+    let first : first_line (l ++ (10 ∷ rest)) ≡ l = before_front is_newline l (10 ∷ rest) free.0 ∙ ap (λ x. l ++ x) (before_yes is_newline 10 rest refl) ∙ append-nil l in
+    let below : below_first (l ++ (10 ∷ rest)) ≡ rest = after_front is_newline l (10 ∷ rest) free.0 ∙ after_yes is_newline 10 rest refl in
+    let some : 0 < length (l ++ (10 ∷ rest)) = omega (arith, length-append l (10 ∷ rest)) in
+    ap lines same ∙ lines_cons (l ++ (10 ∷ rest)) some ∙ ap (λ x. x ∷ lines (below_first (l ++ (10 ∷ rest)))) first ∙ ap (λ x. l ∷ lines x) below ∙ ap (λ x. l ∷ x) (lines_of_front ls more free.1)
+
+pub lines_of_joined : (ls : List (List ℕ)) → AllByRecursion (Free is_newline) ls → lines (flat_map ended ls) ≡ ls
+lines_of_joined ls free = ap lines (sym (append-nil (flat_map ended ls))) ∙ lines_of_front ls [] free ∙ append-nil ls
+
+-- the end of a finished text is finished
+pub finished_drop : (k : ℕ) (bs : List ℕ) → finished bs ≡ true → finished (drop k bs) ≡ true
+finished_drop k bs e = finished_from (drop k bs) (λ (some : 0 < length (drop k bs)).
+    let left : k < length bs = omega (arith, length-drop k bs) in
+    let last : is_newline (get_or bs (length bs - 1) 0) ≡ true = last_newline bs (omega arith) e in
+    let place : k + (length (drop k bs) - 1) ≡ length bs - 1 = omega (arith, length-drop k bs) in
+    ap is_newline (get_or-drop k bs (length (drop k bs) - 1) 0 ∙ ap (λ i. get_or bs i 0) place) ∙ last)

@@ -5,5 +5,6 @@ pub mod FirstFields
 pub mod FreeNumbers
 pub mod LineFields
 pub mod LinesLeft
+pub mod ReaderFacts
 pub mod Separators
 pub mod Written

@@ -1,11 +1,15 @@
 -- The lines of a text, one after another. Assumes nothing.
-use Rattle.std.proofs.Common.{◌≡◌, ℕ, ◌+◌, ◌<◌, ◌≤◌, List, [], ◌∷◌, length, false, Bool, arith, refl, eqb, inl, inr, subst}
+use Rattle.std.proofs.Common.{◌∙◌, ap, sym, ◌≡◌, ℕ, ◌+◌, ◌<◌, ◌≤◌, List, [], ◌∷◌, length, false, Bool, arith, refl, eqb, inl, inr, subst}
 use Rattle.std.proofs.lemmas.Bool.{cases_lt}
 use Rattle.std.proofs.lemmas.Bool.Decides.{nat_tests}
 use Rattle.std.proofs.lemmas.List.{take_all, drop_all}
 use Rattle.std.proofs.lemmas.List.Splits.{slice_split_first, length-slice_split}
 use Rattle.std.specs.List.{position_or_len, slice_split}
 use Rattle.text.proofs.Cuts.{Free, free_before, split_free}
+use Rattle.text.specs.FieldsOfLines.{GivesLine}
+use Rattle.text.specs.Readers.{AtEnd, fields_read_of, rest_of}
+use Rattle.text.specs.declared.line.Line.{Line}
+use Rattle.text.specs.declared.reader.Reader.{Reader}
 use Rattle.text.specs.Lines.{is_newline, first_line, below_first, lines}
 
 -- there is always a piece
@@ -33,3 +37,11 @@ lines_only bs some past =
 -- the lines are the first and those below it
 pub lines_cons : (bs : List ℕ) → 0 < length bs → lines bs ≡ first_line bs ∷ lines (below_first bs)
 lines_cons bs some = elim (cases_lt (position_or_len is_newline bs) (length bs)) [ inl l ↦ lines_first bs l | inr g ↦ lines_only bs some g ]
+
+pub some_left : (bs : List ℕ) → (bs ≡ [] → ⊥) → 0 < length bs
+some_left [] none = absurd (none refl)
+some_left (b ∷ bs) none = omega arith
+
+-- the same of a reader that stands at the beginning of a line
+pub lines_after : (r : Reader) (l : Line) (s : Reader) → fields_read_of r ≡ 0 → (AtEnd r → ⊥) → GivesLine r l s → lines (rest_of r) ≡ first_line (rest_of r) ∷ lines (rest_of s)
+lines_after r l s begins going gives = lines_cons (rest_of r) (some_left (rest_of r) (λ e. going (e, begins))) ∙ ap (λ bs. first_line (rest_of r) ∷ lines bs) (sym gives.rest)

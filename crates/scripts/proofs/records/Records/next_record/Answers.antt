@@ -2,7 +2,8 @@ use Rattle.std.proofs.Common.{rules, ◌∙◌, sym, refl}
 use Rattle.std.proofs.lemmas.Result.{err_from_is_err_and}
 use Rattle.text.specs.FieldsOfLines.{GivesLine}
 use Rattle.text.specs.Readers.{AtEnd}
-use Rattle.scripts.proofs.Lefts.{some_left, left_ok, left_err}
+use Rattle.text.proofs.LinesLeft.{some_left}
+use Rattle.scripts.proofs.Lefts.{left_ok, left_err}
 use Rattle.scripts.proofs.records.Records.next_record.Goals as goal
 
 pub returns-in_err-record : goal.returns-in_err-record

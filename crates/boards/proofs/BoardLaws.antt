@@ -1,0 +1,165 @@
+-- A written board is read as itself, and a board that is read was written so. Assumes nothing.
+use Rattle.std.proofs.Common.{◌≡◌, ℕ, suc, zero, ◌+◌, ◌*◌, ◌≤◌, List, [], ◌∷◌, ◌++◌, length, take, drop, map, flat_map, Ok, Err, Result, arith, refl, sym, ◌∙◌, ap, subst, codes, None}
+use Rattle.std.proofs.Math.Nat.{suc-mul}
+use Rattle.std.proofs.lemmas.List.{append_assoc, take_at, drop_at, length-append, length-take-le, length-drop, take-append-drop}
+use Rattle.std.specs.Fmt.{decimal}
+use Rattle.std.specs.List.{AllByRecursion}
+use Rattle.faults.specs.Results.{◌>>=◌}
+use Rattle.faults.specs.declared.record.RecordFault.{RecordFault}
+use Rattle.lattice.specs.Lattice.{Lattice, with_cells}
+use Rattle.lattice.specs.Refusals.{start_refusal}
+use Rattle.text.proofs.Cuts.{Free}
+use Rattle.text.proofs.EndedLines.{ended_by_fields, fields_of_parted, lines_of_front}
+use Rattle.text.proofs.FreeNumbers.{decimal_free}
+use Rattle.text.proofs.LineFields.{no_tab, no_newline}
+use Rattle.text.specs.Lines.{is_newline, lines, ended, parted, fields}
+use Rattle.boards.proofs.BoardLines.{StartRead, start_read, start_written, RowRead, row_read, row_written}
+use Rattle.boards.proofs.HexText.{AreBytes, hex_free}
+use Rattle.boards.specs.Boards.{hex, rows, start_line, row_line, board_text}
+use Rattle.boards.specs.Reading.{on_first, start_at, row_at, rows_from, board_from, empty}
+
+-- what an answer to the first line was asked of
+first_was : {A : Type 0} (f : ℕ → List (List ℕ) → Result A RecordFault) (n : ℕ) (ls : List (List ℕ)) (y : A) → on_first f n ls ≡ Ok y → (l : List ℕ) × (more : List (List ℕ)) × (ls ≡ l ∷ more) × (f n (fields l) ≡ Ok y)
+first_was f n [] y is = absurd cc
+first_was f n (l ∷ ls) y is = (l, ls, refl, is)
+
+pub went_on : {A B : Type 0} (a : Result A RecordFault) (f : A → Result B RecordFault) (y : B) → (a >>= f) ≡ Ok y → (x : A) × (a ≡ Ok x) × (f x ≡ Ok y)
+went_on (Ok x) f y is = (x, refl, is)
+went_on (Err e) f y is = absurd cc
+
+-- rows that were read
+pub record RowsWere (w h : ℕ) (ls : List (List ℕ)) (cs : List ℕ) : Type 0 where
+  pub text : flat_map ended ls ≡ flat_map row_line (rows w h cs) ++ flat_map ended (drop h ls)
+  pub count : length cs ≡ h * w
+  pub bytes : AreBytes cs
+
+bytes_append : (xs ys : List ℕ) → AreBytes xs → AreBytes ys → AreBytes (xs ++ ys)
+bytes_append [] ys x y = y
+bytes_append (b ∷ xs) ys x y = (x.0, bytes_append xs ys x.1 y)
+
+first_row : (w h : ℕ) (xs ys : List ℕ) → length xs ≡ w → rows w (suc h) (xs ++ ys) ≡ xs ∷ rows w h ys
+first_row w h xs ys count = ap (λ x. x ∷ rows w h (drop w (xs ++ ys))) (take_at xs ys w count) ∙ ap (λ x. xs ∷ rows w h x) (drop_at xs ys w count)
+
+pub rows_were : (w h n : ℕ) (ls : List (List ℕ)) (cs : List ℕ) → rows_from w h n ls ≡ Ok cs → RowsWere w h ls cs
+rows_were w zero n ls cs is = let none : [] ≡ cs = cc in subst (RowsWere w zero ls) none (record { text = refl; count = omega arith; bytes = tt })
+rows_were w (suc h) n ls cs is =
+    let first = went_on (on_first (row_at w) n ls) (λ xs. rows_from w h (n + 1) (drop 1 ls) >>= λ ys. Ok (xs ++ ys)) cs is in
+    let second = went_on (rows_from w h (n + 1) (drop 1 ls)) (λ ys. Ok (first.0 ++ ys)) cs first.2 in
+    let xs : List ℕ = first.0 in
+    let ys : List ℕ = second.0 in
+    let line = first_was (row_at w) n ls xs first.1 in
+    let row : RowRead w (fields line.0) xs = row_read w n (fields line.0) xs line.3 in
+    let below : RowsWere w h (drop 1 ls) ys = rows_were w h (n + 1) (drop 1 ls) ys second.1 in
+    let rest : drop 1 ls ≡ line.1 = ap (drop 1) line.2 in
+    let here : ended line.0 ≡ row_line xs = ended_by_fields line.0 (codes "row" ∷ flat_map hex xs ∷ []) row.written in
+    let same : xs ++ ys ≡ cs = cc (second.2) in
+    let split : rows w (suc h) (xs ++ ys) ≡ xs ∷ rows w h ys = first_row w h xs ys row.count in
+    let behind : drop h (drop 1 ls) ≡ drop (suc h) ls = ap (drop h) rest ∙ sym (ap (drop (suc h)) line.2) in
+    subst (RowsWere w (suc h) ls) same (record {
+      text =
+          ap (flat_map ended) line.2 ∙ ap (λ x. ended line.0 ++ flat_map ended x) (sym rest) ∙ ap (λ x. x ++ flat_map ended (drop 1 ls)) here ∙ ap (λ x. row_line xs ++ x) below.text
+          ∙ sym (append_assoc (row_line xs) (flat_map row_line (rows w h ys)) (flat_map ended (drop h (drop 1 ls))))
+          ∙ ap (λ x. flat_map row_line x ++ flat_map ended (drop h (drop 1 ls))) (sym split)
+          ∙ ap (λ x. flat_map row_line (rows w (suc h) (xs ++ ys)) ++ flat_map ended x) behind;
+      count = omega (arith, length-append xs ys, row.count, below.count, suc-mul h w);
+      bytes = bytes_append xs ys row.bytes below.bytes;
+    })
+
+-- a board that was read
+pub record BoardWas (ls : List (List ℕ)) (l : Lattice) : Type 0 where
+  pub text : flat_map ended ls ≡ board_text l ++ flat_map ended (drop (l.height + 1) ls)
+  pub accepted : start_refusal l.width l.height l.phase ≡ None
+  pub count : length l.cells ≡ l.height * l.width
+  pub bytes : AreBytes l.cells
+
+pub board_was : (n : ℕ) (ls : List (List ℕ)) (l : Lattice) → board_from n ls ≡ Ok l → BoardWas ls l
+board_was n ls l is =
+    let first = went_on (on_first start_at n ls) (λ s. rows_from s.width s.height (n + 1) (drop 1 ls) >>= λ cs. Ok (with_cells s cs)) l is in
+    let s : Lattice = first.0 in
+    let second = went_on (rows_from s.width s.height (n + 1) (drop 1 ls)) (λ cs. Ok (with_cells s cs)) l first.2 in
+    let cs : List ℕ = second.0 in
+    let line = first_was start_at n ls s first.1 in
+    let start : StartRead (fields line.0) s = start_read n (fields line.0) s line.3 in
+    let below : RowsWere s.width s.height (drop 1 ls) cs = rows_were s.width s.height (n + 1) (drop 1 ls) cs second.1 in
+    let rest : drop 1 ls ≡ line.1 = ap (drop 1) line.2 in
+    let here : ended line.0 ≡ start_line s.width s.height s.phase = ended_by_fields line.0 (codes "board" ∷ decimal s.width ∷ decimal s.height ∷ decimal s.phase ∷ []) start.written in
+    let same : with_cells s cs ≡ l = cc (second.2) in
+    let one : s.height + 1 ≡ suc s.height = omega arith in
+    let behind : drop s.height (drop 1 ls) ≡ drop (s.height + 1) ls = ap (drop s.height) rest ∙ sym (ap (λ k. drop k ls) one ∙ ap (drop (suc s.height)) line.2) in
+    subst (BoardWas ls) same (record {
+      text =
+          ap (flat_map ended) line.2 ∙ ap (λ x. ended line.0 ++ flat_map ended x) (sym rest) ∙ ap (λ x. x ++ flat_map ended (drop 1 ls)) here ∙ ap (λ x. start_line s.width s.height s.phase ++ x) below.text
+          ∙ sym (append_assoc (start_line s.width s.height s.phase) (flat_map row_line (rows s.width s.height cs)) (flat_map ended (drop s.height (drop 1 ls))))
+          ∙ ap (λ x. board_text (with_cells s cs) ++ flat_map ended x) behind;
+      accepted = start.accepted;
+      count = below.count;
+      bytes = below.bytes;
+    })
+
+-- the lines of a board, with no newlines
+abbrev pub row_content : List ℕ → List ℕ
+row_content cs = parted (codes "row" ∷ flat_map hex cs ∷ [])
+
+abbrev pub start_content : ℕ → ℕ → ℕ → List ℕ
+start_content w h p = parted (codes "board" ∷ decimal w ∷ decimal h ∷ decimal p ∷ [])
+
+-- rows that are written are read
+fields_of_row : (cs : List ℕ) → AreBytes cs → fields (row_content cs) ≡ codes "row" ∷ flat_map hex cs ∷ []
+fields_of_row cs bytes = fields_of_parted (codes "row") (flat_map hex cs ∷ []) ((refl, (refl, (refl, tt))), (no_tab (flat_map hex cs) (hex_free cs bytes), tt))
+
+bytes_take : (n : ℕ) (cs : List ℕ) → AreBytes cs → AreBytes (take n cs)
+bytes_take zero cs bytes = tt
+bytes_take (suc n) [] bytes = tt
+bytes_take (suc n) (c ∷ cs) bytes = (bytes.0, bytes_take n cs bytes.1)
+
+bytes_drop : (n : ℕ) (cs : List ℕ) → AreBytes cs → AreBytes (drop n cs)
+bytes_drop zero cs bytes = bytes
+bytes_drop (suc n) [] bytes = tt
+bytes_drop (suc n) (c ∷ cs) bytes = bytes_drop n cs bytes.1
+
+no_cells : (cs : List ℕ) → length cs ≡ 0 → cs ≡ []
+no_cells [] e = refl
+no_cells (c ∷ cs) e = absurd (omega arith)
+
+pub rows_taken : (w h n : ℕ) (cs : List ℕ) (more : List (List ℕ)) → length cs ≡ h * w → AreBytes cs → rows_from w h n (map row_content (rows w h cs) ++ more) ≡ Ok cs
+rows_taken w zero n cs more count bytes = ap Ok (sym (no_cells cs (omega (arith, count))))
+rows_taken w (suc h) n cs more count bytes =
+    let row : List ℕ = take w cs in
+    let rest : List ℕ = drop w cs in
+    let long : w ≤ length cs = omega (arith, count, suc-mul h w) in
+    let len : length row ≡ w = length-take-le w cs long in
+    let left : length rest ≡ h * w = omega (arith, length-drop w cs, count, suc-mul h w) in
+    let first : row_at w n (fields (row_content row)) ≡ Ok row = ap (row_at w n) (fields_of_row row (bytes_take w cs bytes)) ∙ row_written w n row len (bytes_take w cs bytes) in
+    let below : rows_from w h (n + 1) (map row_content (rows w h rest) ++ more) ≡ Ok rest = rows_taken w h (n + 1) rest more left (bytes_drop w cs bytes) in
+    rw (first, below) (ap Ok (take-append-drop w cs))
+
+fields_of_start : (w h p : ℕ) → w ≤ 999999 → h ≤ 999999 → p ≤ 999999 → fields (start_content w h p) ≡ codes "board" ∷ decimal w ∷ decimal h ∷ decimal p ∷ []
+fields_of_start w h p a b c = fields_of_parted (codes "board") (decimal w ∷ decimal h ∷ decimal p ∷ []) ((refl, (refl, (refl, (refl, (refl, tt))))), (no_tab _ (decimal_free w a), (no_tab _ (decimal_free h b), (no_tab _ (decimal_free p c), tt))))
+
+pub board_taken : (n : ℕ) (l : Lattice) (more : List (List ℕ)) → l.width ≤ 999999 → l.height ≤ 999999 → l.phase ≤ 999999 → start_refusal l.width l.height l.phase ≡ None → length l.cells ≡ l.height * l.width → AreBytes l.cells → board_from n (start_content l.width l.height l.phase ∷ (map row_content (rows l.width l.height l.cells) ++ more)) ≡ Ok l
+board_taken n l more a b c ok count bytes =
+    let first : start_at n (fields (start_content l.width l.height l.phase)) ≡ Ok (empty l.width l.height l.phase) = ap (start_at n) (fields_of_start l.width l.height l.phase a b c) ∙ start_written n l.width l.height l.phase a b c ok in
+    let below : rows_from l.width l.height (n + 1) (map row_content (rows l.width l.height l.cells) ++ more) ≡ Ok l.cells = rows_taken l.width l.height (n + 1) l.cells more count bytes in
+    rw (first, below) refl
+
+-- the text of a board is its lines
+free_append : (xs ys : List ℕ) → Free is_newline xs → Free is_newline ys → Free is_newline (xs ++ ys)
+free_append [] ys x y = y
+free_append (b ∷ xs) ys x y = (x.0, free_append xs ys x.1 y)
+
+start_free : (w h p : ℕ) → w ≤ 999999 → h ≤ 999999 → p ≤ 999999 → Free is_newline (start_content w h p)
+start_free w h p a b c = (refl, (refl, (refl, (refl, (refl, (refl, free_append (decimal w) (9 ∷ (decimal h ++ (9 ∷ decimal p))) (no_newline _ (decimal_free w a)) (refl, free_append (decimal h) (9 ∷ decimal p) (no_newline _ (decimal_free h b)) (refl, no_newline _ (decimal_free p c)))))))))
+
+rows_free : (w h : ℕ) (cs : List ℕ) → AreBytes cs → AllByRecursion (Free is_newline) (map row_content (rows w h cs))
+rows_free w zero cs bytes = tt
+rows_free w (suc h) cs bytes = ((refl, (refl, (refl, (refl, no_newline _ (hex_free (take w cs) (bytes_take w cs bytes)))))), rows_free w h (drop w cs) (bytes_drop w cs bytes))
+
+rows_joined : (rs : List (List ℕ)) → flat_map row_line rs ≡ flat_map ended (map row_content rs)
+rows_joined [] = refl
+rows_joined (r ∷ rs) = ap (λ x. row_line r ++ x) (rows_joined rs)
+
+pub lines_of_board : (l : Lattice) (more : List ℕ) → l.width ≤ 999999 → l.height ≤ 999999 → l.phase ≤ 999999 → AreBytes l.cells → lines (board_text l ++ more) ≡ start_content l.width l.height l.phase ∷ (map row_content (rows l.width l.height l.cells) ++ lines more)
+lines_of_board l more a b c bytes =
+    let contents : List (List ℕ) = start_content l.width l.height l.phase ∷ map row_content (rows l.width l.height l.cells) in
+    let joined : board_text l ≡ flat_map ended contents = ap (λ x. start_line l.width l.height l.phase ++ x) (rows_joined (rows l.width l.height l.cells)) in
+    ap (λ x. lines (x ++ more)) joined ∙ lines_of_front contents more (start_free l.width l.height l.phase a b c, rows_free l.width l.height l.cells bytes)

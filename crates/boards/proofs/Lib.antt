@@ -1,0 +1,10 @@
+pub mod BoardLaws
+pub mod BoardLines
+pub mod Found
+pub mod Hex
+pub mod HexText
+pub mod NextLines
+pub mod Parts
+pub mod RoundTrips
+pub mod Rows
+pub mod StartLines

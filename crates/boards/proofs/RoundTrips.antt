@@ -1,0 +1,72 @@
+-- A written board is read as itself, and what was read is what is written of it. Assumes nothing.
+use Rattle.std.proofs.Common.{◌≡◌, ℕ, ◌+◌, ◌*◌, ◌≤◌, List, length, take, drop, flat_map, true, None, Ok, Err, Result, IfOk, arith, refl, sym, ◌∙◌, ap, subst, leb}
+use Rattle.std.proofs.Math.Nat.{mul_comm}
+use Rattle.std.proofs.lemmas.Bool.Decides.{nat_tests}
+use Rattle.std.proofs.lemmas.List.{take_at}
+use Rattle.faults.specs.Results.{◌>>=◌}
+use Rattle.faults.specs.declared.record.RecordFault.{RecordFault}
+use Rattle.lattice.specs.Lattice.{Lattice, Within}
+use Rattle.lattice.specs.Limits.{Side, side_test, max_area, max_phase}
+use Rattle.lattice.specs.Refusals.{start_refusal}
+use Rattle.lattice.specs.Starts.{width_of, height_of, held}
+use Rattle.lattice.specs.declared.start.Start.{Start}
+use Rattle.text.proofs.EndedLines.{text_is_its_lines}
+use Rattle.text.specs.Lines.{lines, ended}
+use Rattle.text.specs.Wholes.{max_text, finished, whole}
+use Rattle.boards.proofs.BoardLaws.{BoardWas, board_was, board_taken, lines_of_board, went_on}
+use Rattle.boards.proofs.Found.{FoundBoard, found_count, finished_whole}
+use Rattle.boards.proofs.HexText.{bytes_one_by_one}
+use Rattle.boards.specs.Answers.{BoardFound, BoardRead, BeginsWith}
+use Rattle.boards.specs.Boards.{board_text}
+use Rattle.boards.specs.Reading.{board, board_from}
+
+side_passes : (n : ℕ) → Side n → side_test n ≡ true
+side_passes n s = grind (arith, nat_tests, s.0, s.1, s.2)
+
+at_most : (m n : ℕ) → m ≤ n → leb m n ≡ true
+at_most m n l = grind (arith, nat_tests)
+
+not_refused : (l : Lattice) → Within l → start_refusal l.width l.height l.phase ≡ None
+not_refused l w = rw (side_passes l.width w.wide, side_passes l.height w.high, at_most (l.width * l.height) max_area w.area, at_most l.phase max_phase w.phased) refl
+
+whole_passes : (n : ℕ) (bs : List ℕ) → length bs ≤ max_text → finished bs ≡ true → whole n bs ≡ Ok tt
+whole_passes n bs short ends = rw (at_most (length bs) max_text short, ends) refl
+
+-- reading undoes writing
+pub written_board : (n : ℕ) (bs : List ℕ) (l : Lattice) → BeginsWith l bs → board n bs ≡ Ok l
+written_board n bs l b =
+    let w : Within l = b.within in
+    let wide : l.width ≤ 256 = w.wide.1 in
+    let high : l.height ≤ 256 = w.high.1 in
+    let phased : l.phase ≤ 1 = w.phased in
+    let count : length l.cells ≡ l.height * l.width = b.whole ∙ mul_comm l.width l.height in
+    let contents = lines_of_board l b.more (omega (arith, wide)) (omega (arith, high)) (omega (arith, phased)) (bytes_one_by_one l.cells w.bytes) in
+    let read = board_taken n l (lines b.more) (omega (arith, wide)) (omega (arith, high)) (omega (arith, phased)) (not_refused l w) count (bytes_one_by_one l.cells w.bytes) in
+    ap (λ a. a >>= λ u. board_from n (lines bs)) (whole_passes n bs b.short b.finished) ∙ ap (λ x. board_from n (lines x)) b.text ∙ ap (board_from n) contents ∙ read
+
+pub written_is_found : (n : ℕ) (bs : List ℕ) (l : Lattice) (r : Result (Start × ℕ) RecordFault) → BoardFound (board n bs) r → BeginsWith l bs → BoardFound (Ok l) r
+written_is_found n bs l r found b = subst (λ (a : Result Lattice RecordFault). BoardFound a r) (written_board n bs l b) found
+
+pub written_is_read : (n : ℕ) (bs old new : List ℕ) (l : Lattice) (r : Result (Start × ℕ) RecordFault) → BoardRead (board n bs) old new r → BeginsWith l bs → BoardRead (Ok l) old new r
+written_is_read n bs old new l r read b = subst (λ (a : Result Lattice RecordFault). BoardRead a old new r) (written_board n bs l b) read
+
+-- writing undoes reading
+board_bytes : (n : ℕ) (bs : List ℕ) (l : Lattice) → board n bs ≡ Ok l → take (length (board_text l)) bs ≡ board_text l
+board_bytes n bs l is =
+    let good = went_on (whole n bs) (λ _. board_from n (lines bs)) l is in
+    let ends : finished bs ≡ true = finished_whole n bs good.1 in
+    let was : BoardWas (lines bs) l = board_was n (lines bs) l good.2 in
+    ap (take (length (board_text l))) (text_is_its_lines bs ends ∙ was.text) ∙ take_at (board_text l) (flat_map ended (drop (l.height + 1) (lines bs))) (length (board_text l)) refl
+
+read_at : (n : ℕ) (bs old new : List ℕ) (r : Result (Start × ℕ) RecordFault) (a : Result Lattice RecordFault) → board n bs ≡ a → BoardRead a old new r → IfOk r (λ x. take x.1 bs ≡ board_text (held x.0 (take (width_of x.0 * height_of x.0) new)))
+read_at n bs old new (Err e) a is read = tt
+read_at n bs old new (Ok x) (Err e) is read = absurd read
+read_at n bs old new (Ok x) (Ok l) is read =
+    let f : FoundBoard n bs x = record { lattice = l; is = is; start = read.1; end = read.2 } in
+    let count : length l.cells ≡ width_of x.0 * height_of x.0 = found_count n bs x f in
+    let cells : take (width_of x.0 * height_of x.0) new ≡ l.cells = ap (take (width_of x.0 * height_of x.0)) read.3 ∙ take_at l.cells (drop (length l.cells) old) (width_of x.0 * height_of x.0) count in
+    let same : held x.0 (take (width_of x.0 * height_of x.0) new) ≡ l = ap (held x.0) cells ∙ read.1 in
+    ap (λ k. take k bs) read.2 ∙ board_bytes n bs l is ∙ sym (ap board_text same)
+
+pub read_is_written : (n : ℕ) (bs old new : List ℕ) (r : Result (Start × ℕ) RecordFault) → BoardRead (board n bs) old new r → IfOk r (λ x. take x.1 bs ≡ board_text (held x.0 (take (width_of x.0 * height_of x.0) new)))
+read_is_written n bs old new r read = read_at n bs old new r (board n bs) refl read

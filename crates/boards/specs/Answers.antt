@@ -1,0 +1,32 @@
+-- What the calls that read a board answer.
+--     BoardFound a r             r is what looking for the board a answers: its start record, and how many bytes its text has; or its fault
+--     BoardRead a old new r      r is what reading the board a into a memory of `old` answers, which then holds `new`
+--     BeginsWith l bs            bs is a text that begins with the lattice l
+use Rattle.std.specs.Prelude.{◌≡◌, ℕ, ◌<◌, ◌≤◌, List, ◌++◌, length, drop, Result, Ok, Err, IsTrue}
+use Rattle.faults.specs.declared.record.RecordFault.{RecordFault}
+use Rattle.faults.specs.declared.record.RecordFault.TheVariants.{CellsTooShort}
+use Rattle.lattice.specs.Lattice.{Lattice, Whole, Within}
+use Rattle.lattice.specs.Starts.{StartOf}
+use Rattle.lattice.specs.declared.start.Start.{Start}
+use Rattle.text.specs.Wholes.{max_text, finished}
+use Rattle.boards.specs.Boards.{board_text}
+
+abbrev pub BoardFound : Result Lattice RecordFault → Result (Start × ℕ) RecordFault → Type 0
+BoardFound (Ok l) (Ok x) = StartOf l x.0 × (x.1 ≡ length (board_text l))
+BoardFound (Ok l) (Err e) = ⊥
+BoardFound (Err d) (Ok x) = ⊥
+BoardFound (Err d) (Err e) = e ≡ d
+
+abbrev pub BoardRead : Result Lattice RecordFault → List ℕ → List ℕ → Result (Start × ℕ) RecordFault → Type 0
+BoardRead (Ok l) old new (Ok x) = (length l.cells ≤ length old) × StartOf l x.0 × (x.1 ≡ length (board_text l)) × (new ≡ l.cells ++ drop (length l.cells) old)
+BoardRead (Ok l) old new (Err e) = (length old < length l.cells) × (e ≡ CellsTooShort) × (new ≡ old)
+BoardRead (Err d) old new (Ok x) = ⊥
+BoardRead (Err d) old new (Err e) = (e ≡ d) × (new ≡ old)
+
+pub record BeginsWith (l : Lattice) (bs : List ℕ) : Type 0 where
+  pub within : Within l
+  pub whole : Whole l
+  pub more : List ℕ
+  pub text : bs ≡ board_text l ++ more
+  pub short : length bs ≤ max_text
+  pub finished : IsTrue (finished bs)

@@ -1,0 +1,55 @@
+// The check of a board, before any cell is written.
+ghost use Rattle.std.specs.Prelude.{◌≡◌, ◌≤◌, Ok};
+ghost use Rattle.lattice.specs.Lattice.{Lattice};
+ghost use Rattle.text.specs.Readers.{fields_read_of};
+ghost use Rattle.boards.specs.Answers.{BoardFound, BeginsWith};
+ghost use Rattle.boards.specs.Reading.{board};
+ghost use Rattle.boards.specs.Steps.{RowsChecked, BoardChecked};
+
+use crate::lines::{read_row, read_start};
+use faults::record::RecordFault;
+use lattice::start::Start;
+use text::reader::Reader;
+use text::whole::check_whole;
+
+// Goes over so many rows.
+#[tactic(auto, using(crate::proofs::Rows::no_row, crate::proofs::Rows::bad_row, crate::proofs::Rows::all_rows))]
+fn check_rows(reader: &mut Reader<'_>, width: usize, height: usize) -> Result<(), RecordFault>
+    requires begins { fields_read_of reader.old ≡ 0 }
+    requires narrow { width ≤ 256 }
+    ensures { RowsChecked width height reader.old result reader.new }
+{
+    for checked in 0..height {
+        read_row(reader, width)?;
+    }
+    Ok(())
+}
+
+// Goes over a board.
+fn check_lines(reader: &mut Reader<'_>) -> Result<Start, RecordFault>
+    requires { fields_read_of reader.old ≡ 0 }
+    ensures { BoardChecked reader.old result reader.new }
+{
+    let start = read_start(reader)?;
+    check_rows(reader, start.width(), start.height())?;
+    Ok(start)
+}
+
+// Looks for the board with which the text begins.
+fn find_board(text: &[u8], first_line: u32) -> Result<(Start, usize), RecordFault>
+    ensures { BoardFound (board first_line text.now) result }
+{
+    check_whole(text, first_line)?;
+    let mut reader = Reader::new(text, first_line);
+    let start = check_lines(&mut reader)?;
+    Ok((start, reader.position()))
+}
+
+// The start record of the board with which the text begins, and how many bytes the board has; or the first fault.
+pub fn check_board(text: &[u8], first_line: u32) -> Result<(Start, usize), RecordFault>
+    ensures answer { BoardFound (board first_line text.now) result }
+    // a board that is written is found
+    ensures written { (l : Lattice) → BeginsWith l text.now → BoardFound (Ok l) result }
+{
+    find_board(text, first_line)
+}
