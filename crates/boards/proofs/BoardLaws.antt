@@ -154,7 +154,7 @@ rows_free : (w h : ℕ) (cs : List ℕ) → AreBytes cs → AllByRecursion (Free
 rows_free w zero cs bytes = tt
 rows_free w (suc h) cs bytes = ((refl, (refl, (refl, (refl, no_newline _ (hex_free (take w cs) (bytes_take w cs bytes)))))), rows_free w h (drop w cs) (bytes_drop w cs bytes))
 
-rows_joined : (rs : List (List ℕ)) → flat_map row_line rs ≡ flat_map ended (map row_content rs)
+pub rows_joined : (rs : List (List ℕ)) → flat_map row_line rs ≡ flat_map ended (map row_content rs)
 rows_joined [] = refl
 rows_joined (r ∷ rs) = ap (λ x. row_line r ++ x) (rows_joined rs)
 

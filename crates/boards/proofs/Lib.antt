@@ -5,6 +5,9 @@ pub mod Hex
 pub mod HexText
 pub mod NextLines
 pub mod Parts
+pub mod Puts
+pub mod ReadBack
 pub mod RoundTrips
 pub mod Rows
 pub mod StartLines
+pub mod WholeBoards

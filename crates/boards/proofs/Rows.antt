@@ -59,10 +59,10 @@ bad_row w h r i s front e before l row = before.rows ∙ ap (behind front) (rows
 pub all_rows : (w h : ℕ) (r : Reader) (i : ℕ) (s : Reader) (front : List ℕ) → RowsRead w h r i s front → h ≤ i → rows_from w h (line_of r) (lines_left r) ≡ Ok front
 all_rows w h r i s front done l = let left : h - i ≡ 0 = omega arith in done.rows ∙ ap (λ k. behind front (rows_from w k (line_of s) (lines_left s))) left ∙ ap Ok (append-nil front)
 
-next_place : (w i : ℕ) → (i + 1) * w ≡ i * w + w
+pub next_place : (w i : ℕ) → (i + 1) * w ≡ i * w + w
 next_place w i = let one : i + 1 ≡ suc i = omega arith in ap (λ k. k * w) one ∙ suc-mul i w
 
-place_within : (w h i : ℕ) → i < h → i * w + w ≤ h * w
+pub place_within : (w h i : ℕ) → i < h → i * w + w ≤ h * w
 place_within w h i l = let more : i + 1 ≤ h = omega arith in let less : (i + 1) * w ≤ h * w = mul-le-mul_right w more in omega (arith, next_place w i, less)
 
 -- the cells of the row are written behind those that were there

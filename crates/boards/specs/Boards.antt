@@ -3,6 +3,7 @@
 --     rows w h cs         the cells cs in h rows of w cells
 --     start_line w h p    the line of a board with w columns, h rows and phase p
 --     row_line cs         the line of a row with the cells cs
+--     rows_text w h cs    the lines of h rows of w cells
 --     board_text l        the text of the lattice l
 use Rattle.std.specs.Prelude.{ℕ, zero, suc, ◌/◌, ◌%◌, false, List, [], ◌∷◌, ◌++◌, take, drop, flat_map, codes}
 use Rattle.std.specs.Fmt.{decimal, digit_glyph}
@@ -22,5 +23,8 @@ start_line w h p = ended (parted (codes "board" ∷ decimal w ∷ decimal h ∷ 
 abbrev pub row_line : List ℕ → List ℕ
 row_line cs = ended (parted (codes "row" ∷ flat_map hex cs ∷ []))
 
+abbrev pub rows_text : ℕ → ℕ → List ℕ → List ℕ
+rows_text w h cs = flat_map row_line (rows w h cs)
+
 abbrev pub board_text : Lattice → List ℕ
-board_text l = start_line l.width l.height l.phase ++ flat_map row_line (rows l.width l.height l.cells)
+board_text l = start_line l.width l.height l.phase ++ rows_text l.width l.height l.cells

@@ -1,4 +1,6 @@
 pub mod Answers
 pub mod Boards
+pub mod Puts
 pub mod Reading
+pub mod Refusals
 pub mod Steps

@@ -4,4 +4,7 @@
 pub mod check;
 mod digits;
 mod lines;
+mod put;
 pub mod read;
+pub mod refusal;
+pub mod write;

@@ -1,0 +1,6 @@
+-- Bytes that are written into a memory.
+--     put_at m a xs     the memory m, with the bytes xs from place a on in place of its own
+use Rattle.std.specs.Prelude.{ℕ, ◌+◌, List, ◌++◌, length, take, drop}
+
+abbrev pub put_at : List ℕ → ℕ → List ℕ → List ℕ
+put_at m a xs = take a m ++ (xs ++ drop (a + length xs) m)
