@@ -47,6 +47,7 @@ pub board_length : (bs front : List ℕ) (p : ℕ) → p ≤ length bs → bs �
 board_length bs front p inside e = omega (arith, inside, ap length e, length-append front (drop p bs), length-drop p bs)
 
 pub found : (n : ℕ) (bs : List ℕ) (r t : Reader) (s : Start) (cs : List ℕ) → whole n bs ≡ Ok tt → text_of r ≡ bs → position_of r ≡ 0 → line_of r ≡ n → board_from (line_of r) (lines_left r) ≡ Ok (held s cs) → LinesDown (height_of s + 1) r t → BoardFound (board n bs) (Ok (s, position_of t))
+unfolding board
 found n bs r t s cs good text begin line is down =
     let all : rest_of r ≡ bs = ap (λ k. drop k (text_of r)) begin ∙ text in
     let is' : board_from n (lines bs) ≡ Ok (held s cs) = sym (ap (λ k. board_from k (lines_left r)) line ∙ ap (λ x. board_from n (lines x)) all) ∙ is in

@@ -20,6 +20,7 @@ pub record BoardParts (n : ℕ) (ls : List (List ℕ)) (l : Lattice) : Type 0 wh
   pub is : with_cells start cells ≡ l
 
 pub board_parts : (n : ℕ) (bs : List ℕ) (l : Lattice) → board n bs ≡ Ok l → BoardParts n (lines bs) l
+unfolding board
 board_parts n bs l e =
     let good = went_on (whole n bs) (λ _. board_from n (lines bs)) l e in
     let first = went_on (on_first start_at n (lines bs)) (λ s. rows_from s.width s.height (n + 1) (drop 1 (lines bs)) >>= λ cs. Ok (with_cells s cs)) l good.2 in

@@ -34,6 +34,7 @@ whole_passes n bs short ends = rw (at_most (length bs) max_text short, ends) ref
 
 -- reading undoes writing
 pub written_board : (n : ℕ) (bs : List ℕ) (l : Lattice) → BeginsWith l bs → board n bs ≡ Ok l
+unfolding board
 written_board n bs l b =
     let w : Within l = b.within in
     let wide : l.width ≤ 256 = w.wide.1 in
@@ -52,6 +53,7 @@ written_is_read n bs old new l r read b = subst (λ (a : Result Lattice RecordFa
 
 -- writing undoes reading
 board_bytes : (n : ℕ) (bs : List ℕ) (l : Lattice) → board n bs ≡ Ok l → take (length (board_text l)) bs ≡ board_text l
+unfolding board
 board_bytes n bs l is =
     let good = went_on (whole n bs) (λ _. board_from n (lines bs)) l is in
     let ends : finished bs ≡ true = finished_whole n bs good.1 in

@@ -75,5 +75,5 @@ rows_from w (suc h) n ls = on_first (row_at w) n ls >>= λ cs. rows_from w h (n 
 abbrev pub board_from : ℕ → List (List ℕ) → Result Lattice RecordFault
 board_from n ls = on_first start_at n ls >>= λ s. rows_from s.width s.height (n + 1) (drop 1 ls) >>= λ cs. Ok (with_cells s cs)
 
-abbrev pub board : ℕ → List ℕ → Result Lattice RecordFault
+unfoldable pub board : ℕ → List ℕ → Result Lattice RecordFault
 board n bs = whole n bs >>= λ _. board_from n (lines bs)

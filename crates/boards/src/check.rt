@@ -36,6 +36,7 @@ fn check_lines(reader: &mut Reader<'_>) -> Result<Start, RecordFault>
 }
 
 // Looks for the board with which the text begins.
+#[tactic(auto, unfolding(crate::specs::Reading::board))]
 fn find_board(text: &[u8], first_line: u32) -> Result<(Start, usize), RecordFault>
     ensures { BoardFound (board first_line text.now) result }
 {
@@ -46,6 +47,7 @@ fn find_board(text: &[u8], first_line: u32) -> Result<(Start, usize), RecordFaul
 }
 
 // The start record of the board with which the text begins, and how many bytes the board has; or the first fault.
+#[tactic(auto, using(crate::proofs::RoundTrips::written_is_found))]
 pub fn check_board(text: &[u8], first_line: u32) -> Result<(Start, usize), RecordFault>
     ensures answer { BoardFound (board first_line text.now) result }
     // a board that is written is found

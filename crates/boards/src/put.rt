@@ -15,8 +15,8 @@ pub(crate) fn put(bytes: &[u8], memory: &mut [u8], at: usize) -> usize
     end
 }
 
-#[tactic(auto, using(crate::proofs::Puts::one_digit, crate::proofs::Puts::two_digits, crate::proofs::Puts::three_digits, crate::proofs::Puts::one_long, crate::proofs::Puts::two_long, crate::proofs::Puts::three_long))]
 // The same of a number of at most three digits.
+#[tactic(auto, using(crate::proofs::Puts::one_digit, crate::proofs::Puts::two_digits, crate::proofs::Puts::three_digits, crate::proofs::Puts::one_long, crate::proofs::Puts::two_long, crate::proofs::Puts::three_long))]
 pub(crate) fn put_number(n: usize, memory: &mut [u8], at: usize) -> usize
     requires small { n ≤ 999 }
     requires room { at + 3 ≤ length memory.old }

@@ -37,6 +37,7 @@ fn fill_rows(
 }
 
 // Fills in the cells of a board that was checked.
+#[tactic(auto, unfolding(crate::specs::Reading::board))]
 fn fill_cells(text: &[u8], first_line: u32, cells: &mut [u8]) -> Result<(), RecordFault>
     requires { (l : Lattice) × (board first_line text.now ≡ Ok l) × (length cells.old ≡ length l.cells) }
     ensures { IsOkAnd result (λ _. (l : Lattice) → board first_line text.now ≡ Ok l → cells.new ≡ l.cells) }
@@ -62,7 +63,7 @@ fn read_into(text: &[u8], first_line: u32, cells: &mut [u8]) -> Result<(Start, u
 
 // Reads the board with which the text begins into the first cells of the memory, and answers its start record and how many bytes of the
 // text it has. More text may follow.
-#[tactic(auto, using(crate::proofs::RoundTrips::read_is_written))]
+#[tactic(auto, using(crate::proofs::RoundTrips::written_is_read, crate::proofs::RoundTrips::read_is_written))]
 pub fn read_board(
     text: &[u8],
     first_line: u32,

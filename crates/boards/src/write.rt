@@ -56,8 +56,8 @@ fn put_start(start: &Start, line: &mut [u8]) -> usize
     put(b"\n", line, phase_end)
 }
 
-#[tactic(auto, using(crate::proofs::WholeBoards::board_too_long, crate::proofs::WholeBoards::board_written))]
 // Writes a whole lattice, where there is room for it.
+#[tactic(auto, using(crate::proofs::WholeBoards::board_too_long, crate::proofs::WholeBoards::board_written))]
 fn write_whole(start: &Start, cells: &[u8], memory: &mut [u8]) -> Result<usize, BoardRefusal>
     requires { Whole (held start.now cells.now) }
     ensures { BoardWritten start.now cells.now memory.old memory.new result }
@@ -75,6 +75,7 @@ fn write_whole(start: &Start, cells: &[u8], memory: &mut [u8]) -> Result<usize, 
 }
 
 // Writes the board into the memory, and answers how many bytes it has.
+#[tactic(auto, using(crate::proofs::ReadBack::written_reads_back))]
 pub fn write_board(start: &Start, cells: &[u8], memory: &mut [u8]) -> Result<usize, BoardRefusal>
     ensures answer { BoardWritten start.now cells.now memory.old memory.new result }
     // what is written is read as the same start record and the same cells, whichever line is its first

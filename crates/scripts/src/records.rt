@@ -106,6 +106,12 @@ impl<'t> Records<'t> {
     pub fn next_record(&mut self) -> Result<Option<Record>, RecordFault>
         ensures { RecordGiven self.old result self.new }
     {
+        self.take_record()
+    }
+
+    fn take_record(&mut self) -> Result<Option<Record>, RecordFault>
+        ensures { RecordGiven self.old result self.new }
+    {
         let mut ahead = self.reader;
         let Some(line) = ahead.next_line() else {
             return match self.state {

@@ -4,7 +4,7 @@ use Rattle.text.specs.FieldsOfLines.{GivesLine}
 use Rattle.text.specs.Readers.{AtEnd}
 use Rattle.text.proofs.LinesLeft.{some_left}
 use Rattle.scripts.proofs.Lefts.{left_ok, left_err}
-use Rattle.scripts.proofs.records.Records.next_record.Goals as goal
+use Rattle.scripts.proofs.records.Records.take_record.Goals as goal
 
 pub returns-in_err-record : goal.returns-in_err-record
 returns-in_err-record c =
