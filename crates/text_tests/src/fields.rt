@@ -1,0 +1,125 @@
+// Fields of texts, one after another, also of texts that no check would pass.
+use std::process::Abort;
+use std::test::Fail;
+use text::field::Field;
+use text::line::Line;
+use text::reader::Reader;
+
+// The next field has these bytes, stands there, and ends so: by a tab, a newline or the end of the text.
+fn next_is(
+    rt: &impl Abort,
+    reader: &mut Reader<'_>,
+    bytes: &[u8],
+    place: (usize, usize),
+    end: &str,
+) -> Result<(), Fail> {
+    let field = reader.next_field().ok_or("there is no field")?;
+    assert!(rt; *field.bytes() == *bytes);
+    assert_eq!(rt; (field.place().line, field.place().field), place);
+    let ended = match field {
+        Field::Inner { .. } => "tab",
+        Field::Last { .. } => "newline",
+        Field::Unfinished { .. } => "end",
+    };
+    assert_eq!(rt; ended, end);
+    Ok(())
+}
+
+#[test]
+fn fields_of_finished_lines(rt: HostRuntime) -> Result<(), Fail> {
+    let mut reader = Reader::new(b"ab\t\tc\n\n\t\nd\n", 1);
+    next_is(&rt, &mut reader, b"ab", (1, 1), "tab")?;
+    assert_eq!(rt; reader.position(), 3);
+    next_is(&rt, &mut reader, b"", (1, 2), "tab")?;
+    next_is(&rt, &mut reader, b"c", (1, 3), "newline")?;
+    assert_eq!(rt; reader.line(), 2);
+    next_is(&rt, &mut reader, b"", (2, 1), "newline")?;
+    next_is(&rt, &mut reader, b"", (3, 1), "tab")?;
+    next_is(&rt, &mut reader, b"", (3, 2), "newline")?;
+    next_is(&rt, &mut reader, b"d", (4, 1), "newline")?;
+    assert!(rt; reader.next_field().is_none());
+    assert!(rt; reader.next_field().is_none());
+    assert_eq!(rt; reader.position(), 11);
+    Ok(())
+}
+
+#[test]
+fn fields_of_an_unfinished_line(rt: HostRuntime) -> Result<(), Fail> {
+    let mut reader = Reader::new(b"a\nb\t", 9);
+    next_is(&rt, &mut reader, b"a", (9, 1), "newline")?;
+    next_is(&rt, &mut reader, b"b", (10, 1), "tab")?;
+    next_is(&rt, &mut reader, b"", (10, 2), "end")?;
+    assert!(rt; reader.next_field().is_none());
+    let mut empty = Reader::new(b"", 1);
+    assert!(rt; empty.next_field().is_none());
+    Ok(())
+}
+
+#[test]
+fn other_bytes_are_ordinary(rt: HostRuntime) -> Result<(), Fail> {
+    let mut reader = Reader::new(b"\r\x00\xff\t\x0b \n", 1);
+    next_is(&rt, &mut reader, b"\r\x00\xff", (1, 1), "tab")?;
+    next_is(&rt, &mut reader, b"\x0b ", (1, 2), "newline")?;
+    Ok(())
+}
+
+// How many fields a line has: 0 stands for another number than 1, 2 and 4.
+fn kind(line: Line<'_>) -> usize {
+    match line {
+        Line::One(_) => 1,
+        Line::Two(_, _) => 2,
+        Line::Four(_, _, _, _) => 4,
+        Line::Other(_) => 0,
+    }
+}
+
+#[test]
+fn lines_by_the_number_of_their_fields(rt: HostRuntime) -> Result<(), Fail> {
+    let mut reader = Reader::new(b"a\nb\tc\nd\te\tf\ng\th\ti\tj\nk\tl\tm\tn\to\tp\nq", 1);
+    let kinds: [(usize, &[u8]); 6] = [
+        (1, b"a"),
+        (2, b"b"),
+        (0, b"d"),
+        (4, b"g"),
+        (0, b"k"),
+        (1, b"q"),
+    ];
+    for (count, word) in kinds {
+        let line = reader.next_line().ok_or("there is no line")?;
+        assert_eq!(rt; kind(line), count);
+        assert!(rt; *line.word().bytes() == *word);
+    }
+    assert!(rt; reader.next_line().is_none());
+    Ok(())
+}
+
+#[test]
+fn numbers_of_fields(rt: HostRuntime) -> Result<(), Fail> {
+    let cases: [(&[u8], Option<u32>, Option<i32>); 14] = [
+        (b"0", Some(0), Some(0)),
+        (b"7", Some(7), Some(7)),
+        (b"10", Some(10), Some(10)),
+        (b"999999", Some(999_999), Some(999_999)),
+        (b"-1", None, Some(-1)),
+        (b"-999999", None, Some(-999_999)),
+        (b"-0", None, None),
+        (b"-", None, None),
+        (b"", None, None),
+        (b"00", None, None),
+        (b"-07", None, None),
+        (b"1000000", None, None),
+        (b"1a", None, None),
+        (b"--1", None, None),
+    ];
+    for (bytes, number, signed) in cases {
+        let mut reader = Reader::new(bytes, 1);
+        match reader.next_field() {
+            Some(field) => {
+                assert_eq!(rt; field.number().ok(), number);
+                assert_eq!(rt; field.signed().ok(), signed);
+            }
+            None => assert!(rt; bytes.is_empty()),
+        }
+    }
+    Ok(())
+}
