@@ -1,13 +1,16 @@
 -- A reader of records, and what it gives.
 --     reader_of r, state_of r     the reader of its fields, and the state that the records before have led to
 --     left_of r                   the records that are left to read, or the first fault
---     RecordGiven r a s           r answers a, and is then s
-use Rattle.std.specs.Prelude.{◌≡◌, ◌+◌, ◌<◌, length, List, [], Option, Some, None, Result, Ok, Err}
+--     next_of r                   what r answers to the question for the next record
+--     MovedBy r a s               having answered a, r is s
+--     LeftBehind r a s            what is left after the answer a is the rest of what was left before
+use Rattle.std.specs.Prelude.{◌≡◌, ℕ, ◌+◌, ◌<◌, length, List, [], ◌∷◌, Option, Some, None, Result, Ok, Err}
+use Rattle.faults.specs.Results.{◌>>=◌}
 use Rattle.faults.specs.declared.record.RecordFault.{RecordFault}
-use Rattle.text.specs.Lines.{below_first, lines}
+use Rattle.text.specs.Lines.{below_first, lines, fields}
 use Rattle.text.specs.Readers.{text_of, line_of, rest_of}
 use Rattle.text.specs.declared.reader.Reader.{Reader}
-use Rattle.scripts.specs.Judgements.{records_from, in_front}
+use Rattle.scripts.specs.Judgements.{at_end, judged, records_from, in_front}
 use Rattle.scripts.specs.Records.{kind_of}
 use Rattle.scripts.specs.States.{after}
 use Rattle.scripts.specs.declared.record.Record.{Record}
@@ -31,7 +34,22 @@ pub record GoneOn (r : Records) (x : Record) (s : Records) : Type 0 where
   pub line : line_of (reader_of s) ≡ line_of (reader_of r) + 1
   pub state : state_of s ≡ after (state_of r) (kind_of x)
 
-abbrev pub RecordGiven : Records → Result (Option Record) RecordFault → Records → Type 0
-RecordGiven r (Ok (Some x)) s = (left_of r ≡ in_front x (left_of s)) × GoneOn r x s
-RecordGiven r (Ok None) s = (left_of r ≡ Ok []) × (rest_of (reader_of r) ≡ []) × (s ≡ r)
-RecordGiven r (Err e) s = (left_of r ≡ Err e) × (s ≡ r)
+-- the next record, or the first fault of the line; none at the end, if the state is rest
+abbrev pub next_from : State → ℕ → List (List ℕ) → Result (Option Record) RecordFault
+next_from s n [] = at_end s n >>= λ _. Ok None
+next_from s n (l ∷ ls) = judged s n (fields l) >>= λ x. Ok (Some x)
+
+abbrev pub next_of : Records → Result (Option Record) RecordFault
+next_of r = next_from (state_of r) (line_of (reader_of r)) (lines (rest_of (reader_of r)))
+
+-- only a record moves the reader
+abbrev pub MovedBy : Records → Result (Option Record) RecordFault → Records → Type 0
+MovedBy r (Ok (Some x)) s = GoneOn r x s
+MovedBy r (Ok None) s = s ≡ r
+MovedBy r (Err e) s = s ≡ r
+
+-- what is left then, of what was left before
+abbrev pub LeftBehind : Records → Result (Option Record) RecordFault → Records → Type 0
+LeftBehind r (Ok (Some x)) s = left_of r ≡ in_front x (left_of s)
+LeftBehind r (Ok None) s = left_of r ≡ Ok []
+LeftBehind r (Err e) s = left_of r ≡ Err e

@@ -67,7 +67,7 @@ pub struct Records<'t> {
 
 impl<'t> Records<'t> {
     ghost use Rattle.text.specs.Readers.{text_of, line_of, position_of};
-    ghost use Rattle.scripts.specs.Reading.{reader_of, state_of, left_of, RecordGiven};
+    ghost use Rattle.scripts.specs.Reading.{reader_of, state_of, left_of, next_of, MovedBy, LeftBehind};
     ghost use Rattle.scripts.specs.Laws.{Reads};
     ghost use Rattle.scripts.specs.declared.record.Record.{Record};
     ghost use Rattle.scripts.specs.declared.state.State.TheVariants.{Rest};
@@ -103,14 +103,18 @@ impl<'t> Records<'t> {
     }
 
     // The next record, or the first fault of its line. At the end there is none, if the state is rest.
+    #[tactic(auto, using(crate::proofs::Lefts::left_behind))]
     pub fn next_record(&mut self) -> Result<Option<Record>, RecordFault>
-        ensures { RecordGiven self.old result self.new }
+        ensures answer { result ≡ next_of self.old }
+        ensures moved { MovedBy self.old result self.new }
+        ensures left { LeftBehind self.old result self.new }
     {
         self.take_record()
     }
 
     fn take_record(&mut self) -> Result<Option<Record>, RecordFault>
-        ensures { RecordGiven self.old result self.new }
+        ensures answer { result ≡ next_of self.old }
+        ensures moved { MovedBy self.old result self.new }
     {
         let mut ahead = self.reader;
         let Some(line) = ahead.next_line() else {
