@@ -31,7 +31,10 @@ pub fn show_board(rt: &HostRuntime, name: &str, text: &[u8]) -> anyhow::Result<(
         }
     };
     let (width, height) = (start.width(), start.height());
-    println!(rt; "{name}\tboard\t{width}\t{height}\t{}\t{len}", start.phase())?;
+    println!(rt;
+        "{name}\tboard\t{width}\t{height}\t{}\t{len}",
+        start.phase()
+    )?;
     cells.truncate(start.cell_count());
     let mut memory = vec![in rt.alloc(); 0u8; MAX_BOARD]?;
     let written = write_board(&start, &cells, &mut memory).context("the board is not written")?;

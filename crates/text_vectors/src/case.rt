@@ -30,6 +30,11 @@ impl Case {
         let first_line = fields.next().context("no first line")?.parse()?;
         let room = fields.next().context("no size of a memory")?.parse()?;
         let text = bytes_of(alloc, fields.next().context("no text")?)?;
-        Ok(Case { board, first_line, room, text })
+        Ok(Case {
+            board,
+            first_line,
+            room,
+            text,
+        })
     }
 }

@@ -15,7 +15,10 @@ const MAX_BOARD: usize = 34_063;
 fn show_fault(rt: &HostRuntime, fault: RecordFault, rest: &str) -> anyhow::Result<()> {
     let report = Report::from(fault);
     let (layer, number) = (report.layer, report.number);
-    println!(rt; "fault {layer} {number} {} {}{rest}", report.line, report.field)?;
+    println!(rt;
+        "fault {layer} {number} {} {}{rest}",
+        report.line, report.field
+    )?;
     Ok(())
 }
 
