@@ -1,9 +1,10 @@
 -- A written board is read as itself, and a board that is read was written so. Assumes nothing.
-use Rattle.std.proofs.Common.{◌≡◌, ℕ, suc, zero, ◌+◌, ◌*◌, ◌≤◌, List, [], ◌∷◌, ◌++◌, length, take, drop, map, flat_map, Ok, Err, Result, arith, refl, sym, ◌∙◌, ap, subst, codes, None}
+use Rattle.std.proofs.Common.{◌≡◌, ℕ, suc, zero, ◌+◌, ◌*◌, ◌≤◌, List, [], ◌∷◌, ◌++◌, length, take, drop, map, flat_map, Ok, Result, arith, refl, sym, ◌∙◌, ap, subst, codes, None}
 use Rattle.std.proofs.Math.Nat.{suc-mul}
 use Rattle.std.proofs.lemmas.List.{append_assoc, take_at, drop_at, length-append, length-take-le, length-drop, take-append-drop}
 use Rattle.std.specs.Fmt.{decimal}
 use Rattle.std.specs.List.{AllByRecursion}
+use Rattle.faults.proofs.Joined.{went_on}
 use Rattle.faults.specs.Results.{◌>>=◌}
 use Rattle.faults.specs.declared.record.RecordFault.{RecordFault}
 use Rattle.lattice.specs.Lattice.{Lattice, with_cells}
@@ -11,7 +12,7 @@ use Rattle.lattice.specs.Refusals.{start_refusal}
 use Rattle.text.proofs.Cuts.{Free}
 use Rattle.text.proofs.EndedLines.{ended_by_fields, fields_of_parted, lines_of_front}
 use Rattle.text.proofs.FreeNumbers.{decimal_free}
-use Rattle.text.proofs.LineFields.{no_tab, no_newline}
+use Rattle.text.proofs.LineFields.{no_tab, parted_free}
 use Rattle.text.specs.Lines.{is_newline, lines, ended, parted, fields}
 use Rattle.boards.proofs.BoardLines.{StartRead, start_read, start_written, RowRead, row_read, row_written}
 use Rattle.boards.proofs.HexText.{AreBytes, hex_free}
@@ -22,10 +23,6 @@ use Rattle.boards.specs.Reading.{on_first, start_at, row_at, rows_from, board_fr
 first_was : {A : Type 0} (f : ℕ → List (List ℕ) → Result A RecordFault) (n : ℕ) (ls : List (List ℕ)) (y : A) → on_first f n ls ≡ Ok y → (l : List ℕ) × (more : List (List ℕ)) × (ls ≡ l ∷ more) × (f n (fields l) ≡ Ok y)
 first_was f n [] y is = absurd cc
 first_was f n (l ∷ ls) y is = (l, ls, refl, is)
-
-pub went_on : {A B : Type 0} (a : Result A RecordFault) (f : A → Result B RecordFault) (y : B) → (a >>= f) ≡ Ok y → (x : A) × (a ≡ Ok x) × (f x ≡ Ok y)
-went_on (Ok x) f y is = (x, refl, is)
-went_on (Err e) f y is = absurd cc
 
 -- rows that were read
 pub record RowsWere (w h : ℕ) (ls : List (List ℕ)) (cs : List ℕ) : Type 0 where
@@ -143,16 +140,12 @@ board_taken n l more a b c ok count bytes =
     rw (first, below) refl
 
 -- the text of a board is its lines
-free_append : (xs ys : List ℕ) → Free is_newline xs → Free is_newline ys → Free is_newline (xs ++ ys)
-free_append [] ys x y = y
-free_append (b ∷ xs) ys x y = (x.0, free_append xs ys x.1 y)
-
 start_free : (w h p : ℕ) → w ≤ 999999 → h ≤ 999999 → p ≤ 999999 → Free is_newline (start_content w h p)
-start_free w h p a b c = (refl, (refl, (refl, (refl, (refl, (refl, free_append (decimal w) (9 ∷ (decimal h ++ (9 ∷ decimal p))) (no_newline _ (decimal_free w a)) (refl, free_append (decimal h) (9 ∷ decimal p) (no_newline _ (decimal_free h b)) (refl, no_newline _ (decimal_free p c)))))))))
+start_free w h p a b c = parted_free (codes "board" ∷ decimal w ∷ decimal h ∷ decimal p ∷ []) ((refl, (refl, (refl, (refl, (refl, tt))))), (decimal_free w a, (decimal_free h b, (decimal_free p c, tt))))
 
 rows_free : (w h : ℕ) (cs : List ℕ) → AreBytes cs → AllByRecursion (Free is_newline) (map row_content (rows w h cs))
 rows_free w zero cs bytes = tt
-rows_free w (suc h) cs bytes = ((refl, (refl, (refl, (refl, no_newline _ (hex_free (take w cs) (bytes_take w cs bytes)))))), rows_free w h (drop w cs) (bytes_drop w cs bytes))
+rows_free w (suc h) cs bytes = (parted_free (codes "row" ∷ flat_map hex (take w cs) ∷ []) ((refl, (refl, (refl, tt))), (hex_free (take w cs) (bytes_take w cs bytes), tt)), rows_free w h (drop w cs) (bytes_drop w cs bytes))
 
 pub rows_joined : (rs : List (List ℕ)) → flat_map row_line rs ≡ flat_map ended (map row_content rs)
 rows_joined [] = refl

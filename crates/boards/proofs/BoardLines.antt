@@ -1,37 +1,21 @@
 -- The lines of a board: what is written is read, and what is read is written so. Assumes nothing.
-use Rattle.std.proofs.Common.{◌≡◌, ℕ, ◌*◌, ◌≤◌, List, [], ◌∷◌, length, true, false, Bool, cond, Some, None, Option, Ok, Err, Result, arith, refl, sym, ap, subst, flat_map, eqb, codes, ◌&&◌, slice_index_or}
-use Rattle.std.proofs.lemmas.Bool.Decides.{nat_tests}
+use Rattle.std.proofs.Common.{◌≡◌, ℕ, ◌*◌, ◌≤◌, List, [], ◌∷◌, length, true, false, Bool, Some, None, Option, Ok, Result, arith, refl, sym, ap, subst, flat_map, eqb, codes, ◌&&◌, slice_index_or}
+use Rattle.std.proofs.lemmas.Bool.{eqb-true, eq-eqb}
 use Rattle.std.proofs.lemmas.Slice.Eq.{bytes_eq-Decides}
 use Rattle.std.specs.Fmt.{decimal}
 use Rattle.std.specs.List.{list_all}
-use Rattle.std.specs.Option.{ok_or}
 use Rattle.std.specs.Str.{bytes_eq}
+use Rattle.faults.proofs.Joined.{went_on, passed, was_some}
 use Rattle.faults.specs.Results.{◌>>=◌}
 use Rattle.faults.specs.declared.record.RecordFault.{RecordFault}
 use Rattle.lattice.specs.Lattice.{Lattice}
 use Rattle.lattice.specs.Refusals.{start_refusal}
 use Rattle.lattice.specs.declared.refusal.StartRefusal.{StartRefusal}
 use Rattle.text.proofs.Written.{number_read, number_written}
-use Rattle.text.specs.Numbers.{number_of, WritesNumber}
+use Rattle.text.specs.Numbers.{number_of, number_at, WritesNumber}
 use Rattle.boards.proofs.HexText.{AreBytes, ReadDigits, digits_read, hex_is_hex, length-hex, cells_of_hex}
 use Rattle.boards.specs.Boards.{hex}
-use Rattle.boards.specs.Reading.{number_at, line_at, empty, unless_refused, sides_at, numbers_at, start_at, is_hex, cells_of, digits_at, row_at}
-
--- an answer that had to be no fault
-went_on : {A B : Type 0} (a : Result A RecordFault) (f : A → Result B RecordFault) (y : B) → (a >>= f) ≡ Ok y → (x : A) × (a ≡ Ok x) × (f x ≡ Ok y)
-went_on (Ok x) f y is = (x, refl, is)
-went_on (Err e) f y is = absurd cc
-
-passed : {A : Type 0} (b : Bool) (x : Result A RecordFault) (e : RecordFault) (y : A) → cond b x (Err e) ≡ Ok y → (b ≡ true) × (x ≡ Ok y)
-passed true x e y is = (refl, is)
-passed false x e y is = absurd cc
-
-was_some : {A : Type 0} (o : Option A) (e : RecordFault) (x : A) → ok_or o e ≡ Ok x → o ≡ Some x
-was_some None e x is = absurd cc
-was_some (Some y) e x is = cc
-
-same_count : (m n : ℕ) → eqb m n ≡ true → m ≡ n
-same_count m n e = grind (arith, nat_tests)
+use Rattle.boards.specs.Reading.{line_at, empty, unless_refused, sides_at, numbers_at, start_at, is_hex, cells_of, digits_at, row_at}
 
 -- a line that was read with the word w and so many fields behind it
 line_read : {A : Type 0} (w : List ℕ) (count n : ℕ) (fs : List (List ℕ)) (f : List (List ℕ) → Result A RecordFault) (y : A) → line_at w count n fs f ≡ Ok y → (args : List (List ℕ)) × (fs ≡ w ∷ args) × (length args ≡ count) × (f args ≡ Ok y)
@@ -39,7 +23,7 @@ line_read w count n [] f y is = absurd cc
 line_read w count n (v ∷ args) f y is =
     let word = passed (bytes_eq v w) _ _ y is in
     let counted = passed (eqb (length args) count) (f args) _ y word.1 in
-    (args, ap (λ x. x ∷ args) ((bytes_eq-Decides v w).0 word.0), same_count _ _ counted.0, counted.1)
+    (args, ap (λ x. x ∷ args) ((bytes_eq-Decides v w).0 word.0), eqb-true _ _ counted.0, counted.1)
 
 -- the start of a board
 pub record StartRead (fs : List (List ℕ)) (l : Lattice) : Type 0 where
@@ -94,7 +78,7 @@ one w n (a ∷ b ∷ args) cs len is = absurd (omega arith)
 one w n (a ∷ []) cs len is =
     let p = passed (eqb (length a) (2 * w) && list_all is_hex a) (Ok (cells_of a)) _ cs is in
     let tests = both_true (eqb (length a) (2 * w)) (list_all is_hex a) p.0 in
-    let r : ReadDigits a w = digits_read w a (same_count _ _ tests.0) tests.1 in
+    let r : ReadDigits a w = digits_read w a (eqb-true _ _ tests.0) tests.1 in
     let same : cells_of a ≡ cs = cc (p.1) in
     subst (RowRead w (codes "row" ∷ a ∷ [])) same (record { written = ap (λ x. codes "row" ∷ x ∷ []) r.written; count = r.count; bytes = r.bytes })
 
@@ -103,10 +87,7 @@ row_read w n fs cs is =
     let p = line_read (codes "row") 1 n fs (λ args. digits_at w n (slice_index_or args 0 [])) cs is in
     subst (λ (gs : List (List ℕ)). RowRead w gs cs) (sym p.1) (one w n p.0 cs p.2 p.3)
 
-equal_count : (m n : ℕ) → m ≡ n → eqb m n ≡ true
-equal_count m n e = grind (arith, nat_tests)
-
 pub row_written : (w n : ℕ) (cs : List ℕ) → length cs ≡ w → AreBytes cs → row_at w n (codes "row" ∷ flat_map hex cs ∷ []) ≡ Ok cs
 row_written w n cs count bytes =
-    let len : eqb (length (flat_map hex cs)) (2 * w) ≡ true = equal_count _ _ (omega (arith, length-hex cs, count)) in
+    let len : eqb (length (flat_map hex cs)) (2 * w) ≡ true = eq-eqb _ _ (omega (arith, length-hex cs, count)) in
     rw (len, hex_is_hex cs bytes, cells_of_hex cs bytes) refl

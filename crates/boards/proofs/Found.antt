@@ -1,19 +1,19 @@
 -- Where the text of a board ends. Assumes nothing.
-use Rattle.std.proofs.Common.{◌≡◌, ℕ, ◌+◌, ◌*◌, ◌<◌, ◌≤◌, List, ◌++◌, length, take, drop, flat_map, true, false, Bool, Ok, Err, Result, arith, refl, sym, ◌∙◌, ap, subst, leb, if◌then◌else◌}
+use Rattle.std.proofs.Common.{◌≡◌, ℕ, ◌+◌, ◌*◌, ◌<◌, ◌≤◌, List, ◌++◌, length, take, drop, flat_map, true, Ok, Err, Result, arith, refl, sym, ◌∙◌, ap, subst}
 use Rattle.std.proofs.lemmas.List.{length-append, length-drop, length-take-le}
 use Rattle.std.proofs.Math.Nat.{mul_comm}
-use Rattle.std.specs.List.{count_by}
 use Rattle.faults.specs.Results.{◌>>=◌}
 use Rattle.faults.specs.declared.record.RecordFault.{RecordFault}
-use Rattle.faults.specs.declared.record.RecordFault.TheVariants.{TooLong, Unfinished, CellsTooShort}
+use Rattle.faults.specs.declared.record.RecordFault.TheVariants.{CellsTooShort}
 use Rattle.lattice.specs.Lattice.{Lattice}
 use Rattle.lattice.specs.Starts.{width_of, height_of, held, StartOf}
 use Rattle.lattice.specs.declared.start.Start.{Start}
 use Rattle.text.proofs.EndedLines.{text_is_its_lines, finished_drop}
 use Rattle.text.proofs.ReaderFacts.{reader_within}
-use Rattle.text.specs.Lines.{is_newline, lines, ended}
+use Rattle.text.proofs.WholeTexts.{whole_accepted}
+use Rattle.text.specs.Lines.{lines, ended}
 use Rattle.text.specs.Readers.{text_of, position_of, line_of, rest_of}
-use Rattle.text.specs.Wholes.{max_text, finished, whole}
+use Rattle.text.specs.Wholes.{finished, whole}
 use Rattle.text.specs.declared.reader.Reader.{Reader}
 use Rattle.boards.proofs.BoardLaws.{BoardWas, board_was}
 use Rattle.boards.proofs.Parts.{BoardParts, board_parts, cells_counted}
@@ -21,18 +21,6 @@ use Rattle.boards.specs.Answers.{BoardFound, BoardRead}
 use Rattle.boards.specs.Boards.{board_text}
 use Rattle.boards.specs.Reading.{board, board_from}
 use Rattle.boards.specs.Steps.{LinesDown, lines_left}
-
--- the check of the whole text by its two tests
-abbrev whole_at : ℕ → List ℕ → Bool → Bool → Result Unit RecordFault
-whole_at n bs short ends = if short then (if ends then Ok tt else Err (Unfinished (n + count_by is_newline bs))) else Err TooLong
-
-whole_by : (n : ℕ) (bs : List ℕ) (short ends : Bool) → whole_at n bs short ends ≡ Ok tt → ends ≡ true
-whole_by n bs true true e = refl
-whole_by n bs true false e = absurd cc
-whole_by n bs false ends e = absurd cc
-
-pub finished_whole : (n : ℕ) (bs : List ℕ) → whole n bs ≡ Ok tt → finished bs ≡ true
-finished_whole n bs e = whole_by n bs (leb (length bs) max_text) (finished bs) e
 
 -- what follows a board's text in a finished text, as its reader left it
 pub board_ends : (n : ℕ) (bs : List ℕ) (l : Lattice) (t : Reader) → finished bs ≡ true → board_from n (lines bs) ≡ Ok l → text_of t ≡ bs → lines_left t ≡ drop (l.height + 1) (lines bs) → bs ≡ board_text l ++ drop (position_of t) bs
@@ -54,7 +42,7 @@ found n bs r t s cs good text begin line is down =
     let text' : text_of t ≡ bs = down.text ∙ text in
     let left : lines_left t ≡ drop (height_of s + 1) (lines bs) = down.lines ∙ ap (λ x. drop (height_of s + 1) (lines x)) all in
     let inside : position_of t ≤ length bs = omega (arith, reader_within t, ap length text') in
-    let there : bs ≡ board_text (held s cs) ++ drop (position_of t) bs = board_ends n bs (held s cs) t (finished_whole n bs good) is' text' left in
+    let there : bs ≡ board_text (held s cs) ++ drop (position_of t) bs = board_ends n bs (held s cs) t (whole_accepted n bs good).1 is' text' left in
     let whole-is : board n bs ≡ Ok (held s cs) = ap (λ a. a >>= λ u. board_from n (lines bs)) good ∙ is' in
     subst (λ (a : Result Lattice RecordFault). BoardFound a (Ok (s, position_of t))) (sym whole-is) (refl, board_length bs (board_text (held s cs)) (position_of t) inside there)
 

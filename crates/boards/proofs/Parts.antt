@@ -1,5 +1,6 @@
 -- A board that was read, by its first line and its rows. Assumes nothing.
 use Rattle.std.proofs.Common.{◌≡◌, ℕ, ◌+◌, ◌*◌, List, [], length, drop, Ok, arith, sym, ◌∙◌, ap}
+use Rattle.faults.proofs.Joined.{went_on}
 use Rattle.faults.specs.Results.{◌>>=◌}
 use Rattle.lattice.specs.Lattice.{Lattice, with_cells}
 use Rattle.lattice.specs.Starts.{held, width_of, height_of}
@@ -8,7 +9,7 @@ use Rattle.text.specs.Lines.{lines}
 use Rattle.text.specs.Readers.{text_of, position_of, line_of}
 use Rattle.text.specs.Wholes.{whole}
 use Rattle.text.specs.declared.reader.Reader.{Reader}
-use Rattle.boards.proofs.BoardLaws.{went_on, rows_were}
+use Rattle.boards.proofs.BoardLaws.{rows_were}
 use Rattle.boards.specs.Reading.{board, board_from, rows_from, on_first, start_at}
 use Rattle.boards.specs.Steps.{lines_left, LineDown}
 

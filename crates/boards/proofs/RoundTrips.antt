@@ -1,8 +1,10 @@
 -- A written board is read as itself, and what was read is what is written of it. Assumes nothing.
-use Rattle.std.proofs.Common.{◌≡◌, ℕ, ◌+◌, ◌*◌, ◌≤◌, List, length, take, drop, flat_map, true, None, Ok, Err, Result, IfOk, arith, refl, sym, ◌∙◌, ap, subst, leb}
+use Rattle.std.proofs.Common.{◌≡◌, ℕ, ◌+◌, ◌*◌, ◌≤◌, List, length, take, drop, flat_map, true, None, Ok, Err, Result, IfOk, arith, refl, sym, ◌∙◌, ap, subst}
 use Rattle.std.proofs.Math.Nat.{mul_comm}
+use Rattle.std.proofs.lemmas.Bool.{le-leb}
 use Rattle.std.proofs.lemmas.Bool.Decides.{nat_tests}
 use Rattle.std.proofs.lemmas.List.{take_at}
+use Rattle.faults.proofs.Joined.{went_on}
 use Rattle.faults.specs.Results.{◌>>=◌}
 use Rattle.faults.specs.declared.record.RecordFault.{RecordFault}
 use Rattle.lattice.specs.Lattice.{Lattice, Within}
@@ -11,10 +13,11 @@ use Rattle.lattice.specs.Refusals.{start_refusal}
 use Rattle.lattice.specs.Starts.{width_of, height_of, held}
 use Rattle.lattice.specs.declared.start.Start.{Start}
 use Rattle.text.proofs.EndedLines.{text_is_its_lines}
+use Rattle.text.proofs.WholeTexts.{whole_accepted, whole_passes}
 use Rattle.text.specs.Lines.{lines, ended}
-use Rattle.text.specs.Wholes.{max_text, finished, whole}
-use Rattle.boards.proofs.BoardLaws.{BoardWas, board_was, board_taken, lines_of_board, went_on}
-use Rattle.boards.proofs.Found.{FoundBoard, found_count, finished_whole}
+use Rattle.text.specs.Wholes.{finished, whole}
+use Rattle.boards.proofs.BoardLaws.{BoardWas, board_was, board_taken, lines_of_board}
+use Rattle.boards.proofs.Found.{FoundBoard, found_count}
 use Rattle.boards.proofs.HexText.{bytes_one_by_one}
 use Rattle.boards.specs.Answers.{BoardFound, BoardRead, BeginsWith}
 use Rattle.boards.specs.Boards.{board_text}
@@ -23,14 +26,8 @@ use Rattle.boards.specs.Reading.{board, board_from}
 side_passes : (n : ℕ) → Side n → side_test n ≡ true
 side_passes n s = grind (arith, nat_tests, s.0, s.1, s.2)
 
-at_most : (m n : ℕ) → m ≤ n → leb m n ≡ true
-at_most m n l = grind (arith, nat_tests)
-
 not_refused : (l : Lattice) → Within l → start_refusal l.width l.height l.phase ≡ None
-not_refused l w = rw (side_passes l.width w.wide, side_passes l.height w.high, at_most (l.width * l.height) max_area w.area, at_most l.phase max_phase w.phased) refl
-
-whole_passes : (n : ℕ) (bs : List ℕ) → length bs ≤ max_text → finished bs ≡ true → whole n bs ≡ Ok tt
-whole_passes n bs short ends = rw (at_most (length bs) max_text short, ends) refl
+not_refused l w = rw (side_passes l.width w.wide, side_passes l.height w.high, le-leb (l.width * l.height) max_area w.area, le-leb l.phase max_phase w.phased) refl
 
 -- reading undoes writing
 pub written_board : (n : ℕ) (bs : List ℕ) (l : Lattice) → BeginsWith l bs → board n bs ≡ Ok l
@@ -56,7 +53,7 @@ board_bytes : (n : ℕ) (bs : List ℕ) (l : Lattice) → board n bs ≡ Ok l �
 unfolding board
 board_bytes n bs l is =
     let good = went_on (whole n bs) (λ _. board_from n (lines bs)) l is in
-    let ends : finished bs ≡ true = finished_whole n bs good.1 in
+    let ends : finished bs ≡ true = (whole_accepted n bs good.1).1 in
     let was : BoardWas (lines bs) l = board_was n (lines bs) l good.2 in
     ap (take (length (board_text l))) (text_is_its_lines bs ends ∙ was.text) ∙ take_at (board_text l) (flat_map ended (drop (l.height + 1) (lines bs))) (length (board_text l)) refl
 

@@ -1,5 +1,4 @@
 -- What a text says as a board, line by line.
---     number_at n k bs        the number of the field bs, which is field k of line n, or its fault
 --     sides_at n w h p        sides and phase w, h, p, if they are those of a start record; else the fault of line n
 --     numbers_at n a b c      the same by the fields a, b, c of line n, or its first fault
 --     start_at n fs           sides and phase by the fields fs of line n, or its first fault
@@ -10,23 +9,20 @@
 --     rows_from w h n ls      the cells of h rows, the first on line n, where ls are the lines from there on; or the first fault
 --     board_from n ls         the lattice of the lines ls, the first being line n; or the first fault
 --     board n bs              the lattice with which the text bs begins, the first line being line n; or the first fault
-use Rattle.std.specs.Prelude.{ℕ, zero, suc, ◌+◌, ◌*◌, ◌==◌, ◌&&◌, ◌||◌, Bool, List, [], ◌∷◌, ◌++◌, length, drop, Option, Some, None, Result, Ok, Err, ok_or, slice_index_or, codes, nat_le, if◌then◌else◌}
+use Rattle.std.specs.Prelude.{ℕ, zero, suc, ◌+◌, ◌*◌, ◌==◌, ◌&&◌, ◌||◌, Bool, List, [], ◌∷◌, ◌++◌, length, drop, Option, Some, None, Result, Ok, Err, slice_index_or, codes, nat_le, if◌then◌else◌}
 use Rattle.std.specs.Char.{digit_value, is_ascii_digit}
 use Rattle.std.specs.List.{list_all}
 use Rattle.std.specs.Str.{bytes_eq}
 use Rattle.faults.specs.Results.{◌>>=◌}
-use Rattle.faults.specs.declared.field.FieldFault.TheVariants.{NotANumber, WrongDigits}
+use Rattle.faults.specs.declared.field.FieldFault.TheVariants.{WrongDigits}
 use Rattle.faults.specs.declared.record.RecordFault.{RecordFault}
 use Rattle.faults.specs.declared.record.RecordFault.TheVariants.{Field, UnknownWord, FieldCount, Start, MissingLine}
 use Rattle.lattice.specs.Lattice.{Lattice, with_cells}
 use Rattle.lattice.specs.Refusals.{start_refusal}
 use Rattle.lattice.specs.declared.refusal.StartRefusal.{StartRefusal}
 use Rattle.text.specs.Lines.{lines, fields}
-use Rattle.text.specs.Numbers.{number_of}
+use Rattle.text.specs.Numbers.{number_at}
 use Rattle.text.specs.Wholes.{whole}
-
-abbrev pub number_at : ℕ → ℕ → List ℕ → Result ℕ RecordFault
-number_at n k bs = ok_or (number_of bs) (Field (NotANumber (record { line = n; field = k })))
 
 -- a line with the word w has so many fields behind it
 abbrev pub line_at : {A : Type 0} → List ℕ → ℕ → ℕ → List (List ℕ) → (List (List ℕ) → Result A RecordFault) → Result A RecordFault

@@ -12,7 +12,7 @@ const MAX_CELLS: usize = 16_384;
 // No board has a longer text.
 const MAX_BOARD: usize = 34_063;
 
-pub fn show_script(rt: &HostRuntime, name: &str, text: &[u8]) -> anyhow::Result<()> {
+pub(crate) fn show_script(rt: &HostRuntime, name: &str, text: &[u8]) -> anyhow::Result<()> {
     match check(text, 1) {
         Ok(count) => println!(rt; "{name}\tscript\t{count}")?,
         Err(fault) => println!(rt; "{name}\t{}", Report::from(fault))?,
@@ -21,7 +21,7 @@ pub fn show_script(rt: &HostRuntime, name: &str, text: &[u8]) -> anyhow::Result<
 }
 
 // A board that was read is written back, and what was written is printed.
-pub fn show_board(rt: &HostRuntime, name: &str, text: &[u8]) -> anyhow::Result<()> {
+pub(crate) fn show_board(rt: &HostRuntime, name: &str, text: &[u8]) -> anyhow::Result<()> {
     let mut cells = vec![in rt.alloc(); 0u8; MAX_CELLS]?;
     let (start, len) = match read_board(text, 1, &mut cells) {
         Ok(found) => found,

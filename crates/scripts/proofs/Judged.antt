@@ -1,18 +1,17 @@
 -- What a line is judged as: the writing of a record is that record, what is accepted is the writing of a record, and a fault is the first
 -- cause. Assumes nothing.
 use Rattle.std.proofs.Common.{◌≡◌, ◌≢◌, ℕ, ◌+◌, ◌-◌, ◌<◌, ◌≤◌, ℤ, List, [], ◌∷◌, length, true, false, Bool, cond, Some, None, Option, Ok, Err, Result, arith, refl, ◌∙◌, ap, sym, eqb, subst, inl, inr, slice_index_or}
-use Rattle.std.proofs.lemmas.Bool.{cases_lt}
-use Rattle.std.proofs.lemmas.Bool.Decides.{nat_tests}
+use Rattle.std.proofs.lemmas.Bool.{cases_lt, eqb-true, eqb-false}
 use Rattle.std.specs.Fmt.{decimal, signed_decimal}
-use Rattle.std.specs.Option.{ok_or}
+use Rattle.faults.proofs.Joined.{went_on, passed, was_some}
 use Rattle.faults.specs.Results.{◌>>=◌}
 use Rattle.faults.specs.declared.field.FieldFault.TheVariants.{NotANumber}
 use Rattle.faults.specs.declared.record.RecordFault.{RecordFault}
 use Rattle.faults.specs.declared.record.RecordFault.TheVariants.{Field, UnknownWord, FieldCount, NotPermitted}
 use Rattle.text.proofs.Written.{number_read, number_written, signed_read, signed_written}
-use Rattle.text.specs.Numbers.{number_of, signed_of, WritesNumber, WritesSigned}
+use Rattle.text.specs.Numbers.{number_of, signed_of, number_at, signed_at, WritesNumber, WritesSigned}
 use Rattle.scripts.proofs.Words.{word_is, no_word}
-use Rattle.scripts.specs.Judgements.{arity, number_at, signed_at, read_as, judged_as, judged}
+use Rattle.scripts.specs.Judgements.{arity, read_as, judged_as, judged}
 use Rattle.scripts.specs.Laws.{IsArgument, FirstNoNumber, LineFault}
 use Rattle.scripts.specs.Records.{kind_of, fields_of, arguments_of, Writable}
 use Rattle.scripts.specs.States.{permits}
@@ -32,20 +31,6 @@ judged_written s n R.Redo may w = rw may refl
 judged_written s n R.Open may w = rw may refl
 judged_written s n R.Clear may w = rw may refl
 judged_written s n R.Close may w = rw may refl
-
--- a test that had to be passed
-passed : {A : Type 0} (b : Bool) (x : Result A RecordFault) (e : RecordFault) (y : A) → cond b x (Err e) ≡ Ok y → (b ≡ true) × (x ≡ Ok y)
-passed true x e y is = (refl, is)
-passed false x e y is = absurd cc
-
--- an answer that had to be no fault
-went_on : {A B : Type 0} (a : Result A RecordFault) (f : A → Result B RecordFault) (y : B) → (a >>= f) ≡ Ok y → (x : A) × (a ≡ Ok x) × (f x ≡ Ok y)
-went_on (Ok x) f y is = (x, refl, is)
-went_on (Err e) f y is = absurd cc
-
-was_some : {A : Type 0} (o : Option A) (e : RecordFault) (x : A) → ok_or o e ≡ Ok x → o ≡ Some x
-was_some None e x is = absurd cc
-was_some (Some y) e x is = cc
 
 -- what was read as a record of the word k
 pub record IsRead (k : Word) (args : List (List ℕ)) (r : Record) : Type 0 where
@@ -97,12 +82,6 @@ word_read n W.Open args r len e = plain_read W.Open R.Open args r refl refl tt l
 word_read n W.Clear args r len e = plain_read W.Clear R.Clear args r refl refl tt len (answered (read_as W.Clear n args) R.Clear r refl e)
 word_read n W.Close args r len e = plain_read W.Close R.Close args r refl refl tt len (answered (read_as W.Close n args) R.Close r refl e)
 
-same_count : (m n : ℕ) → eqb m n ≡ true → m ≡ n
-same_count m n e = grind (arith, nat_tests)
-
-other_count : (m n : ℕ) → eqb m n ≡ false → m ≢ n
-other_count m n e = grind (arith, nat_tests)
-
 -- what is accepted
 pub record IsRecord (s : State) (fs : List (List ℕ)) (r : Record) : Type 0 where
   pub permitted : permits s (kind_of r) ≡ true
@@ -114,7 +93,7 @@ judged_as_ok None s n w args r o-is e = absurd cc
 judged_as_ok (Some k) s n w args r o-is e =
     let count = passed (eqb (length args) (arity k)) (cond (permits s k) (read_as k n args) (Err (NotPermitted n))) (FieldCount n) r e in
     let state = passed (permits s k) (read_as k n args) (NotPermitted n) r count.1 in
-    let is = word_read n k args r (same_count _ _ count.0) state.1 in
+    let is = word_read n k args r (eqb-true _ _ count.0) state.1 in
     let spelled : w ≡ spelling (kind_of r) = word_is w k o-is ∙ ap spelling (sym is.kind) in
     record {
       permitted = ap (permits s) is.kind ∙ state.0;
@@ -222,10 +201,10 @@ state_fault k s n w args e false spelled count may is =
     subst (LineFault s n (w ∷ args)) same (refl, (k, (spelled, omega (arith, count)), may))
 
 count_fault : (k : Word) (s : State) (n : ℕ) (w : List ℕ) (args : List (List ℕ)) (e : RecordFault) (counted : Bool) → w ≡ spelling k → eqb (length args) (arity k) ≡ counted → cond counted (cond (permits s k) (read_as k n args) (Err (NotPermitted n))) (Err (FieldCount n)) ≡ Err e → LineFault s n (w ∷ args) e
-count_fault k s n w args e true spelled count is = state_fault k s n w args e (permits s k) spelled (same_count _ _ count) refl is
+count_fault k s n w args e true spelled count is = state_fault k s n w args e (permits s k) spelled (eqb-true _ _ count) refl is
 count_fault k s n w args e false spelled count is =
     let same : FieldCount n ≡ e = fault_is (Err (FieldCount n)) (FieldCount n) e refl is in
-    let other : length (w ∷ args) ≢ arity k + 1 = λ l. other_count _ _ count (omega (arith, l)) in
+    let other : length (w ∷ args) ≢ arity k + 1 = λ l. eqb-false _ _ count (omega (arith, l)) in
     subst (LineFault s n (w ∷ args)) same (refl, (k, spelled, other))
 
 word_fault : (o : Option Word) (s : State) (n : ℕ) (w : List ℕ) (args : List (List ℕ)) (e : RecordFault) → word_of w ≡ o → judged_as o s n args ≡ Err e → LineFault s n (w ∷ args) e

@@ -1,13 +1,13 @@
 -- What a whole text is read as, and what is wrong with it, in the words of who writes it. Assumes nothing.
-use Rattle.std.proofs.Common.{◌≡◌, ℕ, ◌+◌, ◌<◌, ◌≤◌, List, length, map, flat_map, true, false, Bool, if◌then◌else◌, Ok, Err, Result, IfOk, arith, refl, ◌∙◌, ap, sym, subst, inl, inr, leb}
-use Rattle.std.proofs.lemmas.Bool.Decides.{nat_tests}
-use Rattle.std.specs.List.{count_by}
+use Rattle.std.proofs.Common.{◌≡◌, ℕ, ◌+◌, ◌≤◌, List, length, map, flat_map, true, Ok, Err, Result, IfOk, refl, ◌∙◌, ap, sym, subst, inl, inr}
+use Rattle.faults.proofs.Joined.{went_on}
+use Rattle.text.proofs.WholeTexts.{whole_accepted, whole_passes, whole_refused}
 use Rattle.faults.specs.Results.{◌>>=◌}
 use Rattle.faults.specs.declared.record.RecordFault.{RecordFault}
 use Rattle.faults.specs.declared.record.RecordFault.TheVariants.{Field, TooLong, Unfinished, UnknownWord, FieldCount, NotPermitted, EndsInSession, Start, MissingLine, CellsTooShort}
 use Rattle.text.proofs.EndedLines.{text_is_its_lines, lines_free, finished_joined}
-use Rattle.text.specs.Lines.{is_newline, lines, ended}
-use Rattle.text.specs.Wholes.{max_text, finished}
+use Rattle.text.specs.Lines.{lines, ended}
+use Rattle.text.specs.Wholes.{max_text, finished, whole}
 use Rattle.scripts.proofs.ScriptFaults.{FaultFrom, fault_lines}
 use Rattle.scripts.proofs.ScriptLines.{line_of, lines_of_script, script_of_lines, taken_lines, accepted_lines, Accepted}
 use Rattle.scripts.specs.Judgements.{records_from, script, count_of}
@@ -16,41 +16,27 @@ use Rattle.scripts.specs.Records.{script_of}
 use Rattle.scripts.specs.declared.record.Record.{Record}
 use Rattle.scripts.specs.declared.state.State.TheVariants.{Rest}
 
-small : (m n : ℕ) → leb m n ≡ true → m ≤ n
-small m n e = grind (arith, nat_tests)
-
-large : (m n : ℕ) → leb m n ≡ false → n < m
-large m n e = grind (arith, nat_tests)
-
 -- a whole text is its lines
 whole_text : (bs : List ℕ) → finished bs ≡ true → bs ≡ flat_map ended (lines bs)
 whole_text bs e = text_is_its_lines bs e
 
--- the check of the whole text by its two tests
-abbrev whole_at : ℕ → List ℕ → Bool → Bool → Result Unit RecordFault
-whole_at n bs short ends = if short then (if ends then Ok tt else Err (Unfinished (n + count_by is_newline bs))) else Err TooLong
-
-accepted_at : (n : ℕ) (bs : List ℕ) (rs : List Record) (short ends : Bool) → leb (length bs) max_text ≡ short → finished bs ≡ ends → (whole_at n bs short ends >>= λ _. records_from Rest n (lines bs)) ≡ Ok rs → IsScript rs bs
-accepted_at n bs rs false ends short-is ends-is e = absurd cc
-accepted_at n bs rs true false short-is ends-is e = absurd cc
-accepted_at n bs rs true true short-is ends-is e =
-    let a : Accepted Rest (lines bs) rs = accepted_lines Rest n (lines bs) rs e in
-    record {
-      reads = record { leads = a.leads; writable = a.writable; text = whole_text bs ends-is ∙ a.text };
-      short = small (length bs) max_text short-is;
-    }
+went_on_to : (n : ℕ) (bs : List ℕ) (rs : List Record) → script n bs ≡ Ok rs → (whole n bs ≡ Ok tt) × (records_from Rest n (lines bs) ≡ Ok rs)
+went_on_to n bs rs e = let p = went_on (whole n bs) (λ _. records_from Rest n (lines bs)) rs e in (p.1, p.2)
 
 pub accepted : (n : ℕ) (bs : List ℕ) (rs : List Record) → script n bs ≡ Ok rs → IsScript rs bs
-accepted n bs rs e = accepted_at n bs rs (leb (length bs) max_text) (finished bs) refl refl e
-
-fits : (m n : ℕ) → m ≤ n → leb m n ≡ true
-fits m n e = grind (arith, nat_tests)
+accepted n bs rs e =
+    let p = went_on_to n bs rs e in
+    let good = whole_accepted n bs p.0 in
+    let a : Accepted Rest (lines bs) rs = accepted_lines Rest n (lines bs) rs p.1 in
+    record {
+      reads = record { leads = a.leads; writable = a.writable; text = whole_text bs good.1 ∙ a.text };
+      short = good.0;
+    }
 
 taken_text : (n : ℕ) (rs : List Record) → IsScript rs (script_of rs) → script n (script_of rs) ≡ Ok rs
 taken_text n rs is =
-    let short : leb (length (script_of rs)) max_text ≡ true = fits _ _ is.short in
     let ends : finished (script_of rs) ≡ true = ap finished (script_of_lines rs) ∙ finished_joined (map line_of rs) in
-    rw (short, ends, lines_of_script rs is.reads.writable) (taken_lines Rest n rs is.reads.leads is.reads.writable)
+    rw (whole_passes n (script_of rs) is.short ends, lines_of_script rs is.reads.writable) (taken_lines Rest n rs is.reads.leads is.reads.writable)
 
 pub taken : (n : ℕ) (bs : List ℕ) (rs : List Record) → IsScript rs bs → script n bs ≡ Ok rs
 taken n bs rs is =
@@ -87,13 +73,19 @@ fault_of_lines n bs e w (inr o) =
     let i : ℕ = n + length o.records in
     subst (TextFault n bs) (sym o.fault) (w, (o.records, record { leads = o.leads; writable = o.writable; text = whole_text bs w.1 ∙ o.text }, refl))
 
-fault_at : (n : ℕ) (bs : List ℕ) (e : RecordFault) (short ends : Bool) → leb (length bs) max_text ≡ short → finished bs ≡ ends → (whole_at n bs short ends >>= λ _. records_from Rest n (lines bs)) ≡ Err e → TextFault n bs e
-fault_at n bs e false ends short-is ends-is is = let same : TooLong ≡ e = cc in subst (TextFault n bs) same (large (length bs) max_text short-is)
-fault_at n bs e true false short-is ends-is is = let same : Unfinished (n + count_by is_newline bs) ≡ e = cc in subst (TextFault n bs) same (small (length bs) max_text short-is, ends-is, refl)
-fault_at n bs e true true short-is ends-is is = fault_of_lines n bs e (small (length bs) max_text short-is, ends-is) (fault_lines Rest n (lines bs) e (lines_free bs) is)
+-- the whole text is wrong, or its lines are
+fault_of_whole : (n : ℕ) (bs : List ℕ) (e : RecordFault) → whole n bs ≡ Err e → TextFault n bs e
+fault_of_whole n bs e is = elim (whole_refused n bs e is) [
+  | inl l ↦ subst (TextFault n bs) (sym l.0) l.1
+  | inr u ↦ subst (TextFault n bs) (sym u.is) (u.short, u.unended, refl)
+]
+
+fault_by : (n : ℕ) (bs : List ℕ) (e : RecordFault) (a : Result Unit RecordFault) → whole n bs ≡ a → (a >>= λ _. records_from Rest n (lines bs)) ≡ Err e → TextFault n bs e
+fault_by n bs e (Err d) a-is is = let same : d ≡ e = cc (is) in fault_of_whole n bs e (a-is ∙ ap Err same)
+fault_by n bs e (Ok u) a-is is = fault_of_lines n bs e (whole_accepted n bs a-is) (fault_lines Rest n (lines bs) e (lines_free bs) is)
 
 pub fault : (n : ℕ) (bs : List ℕ) (e : RecordFault) → script n bs ≡ Err e → TextFault n bs e
-fault n bs e is = fault_at n bs e (leb (length bs) max_text) (finished bs) refl refl is
+fault n bs e is = fault_by n bs e (whole n bs) refl is
 
 -- the same of how many records there are
 counted_at : (n : ℕ) (bs : List ℕ) (a : Result (List Record) RecordFault) → script n bs ≡ a → IfOk (count_of a) (λ count. (rs : List Record) × IsScript rs bs × (count ≡ length rs))

@@ -6,8 +6,8 @@ use Rattle.faults.specs.declared.record.RecordFault.{RecordFault}
 use Rattle.text.proofs.Cuts.{Free}
 use Rattle.text.proofs.EndedLines.{lines_of_joined, fields_of_parted, ended_by_fields}
 use Rattle.text.proofs.FreeNumbers.{decimal_free, signed_free}
-use Rattle.text.proofs.LineFields.{no_tab, no_newline}
-use Rattle.text.specs.Lines.{is_tab, is_newline, is_separator, lines, ended, parted, fields}
+use Rattle.text.proofs.LineFields.{no_tab, tabless, parted_free}
+use Rattle.text.specs.Lines.{is_newline, is_separator, lines, ended, parted, fields}
 use Rattle.scripts.proofs.Judged.{judged_written, judged_ok, IsRecord}
 use Rattle.scripts.specs.Judgements.{judged, at_end, records_from, in_front}
 use Rattle.scripts.specs.Records.{kind_of, fields_of, arguments_of, written, script_of, Writable}
@@ -42,21 +42,8 @@ arguments_free R.Close w = tt
 abbrev pub line_of : Record → List ℕ
 line_of r = parted (fields_of r)
 
-fields_tabless : (fs : List (List ℕ)) → AllByRecursion (Free is_separator) fs → AllByRecursion (Free is_tab) fs
-fields_tabless [] free = tt
-fields_tabless (f ∷ fs) free = (no_tab f free.0, fields_tabless fs free.1)
-
-free_append : (xs ys : List ℕ) → Free is_newline xs → Free is_newline ys → Free is_newline (xs ++ ys)
-free_append [] ys x y = y
-free_append (b ∷ xs) ys x y = (x.0, free_append xs ys x.1 y)
-
-parted_free : (fs : List (List ℕ)) → AllByRecursion (Free is_separator) fs → Free is_newline (parted fs)
-parted_free [] free = tt
-parted_free (f ∷ []) free = no_newline f free.0
-parted_free (f ∷ g ∷ fs) free = free_append f (9 ∷ parted (g ∷ fs)) (no_newline f free.0) (refl, parted_free (g ∷ fs) free.1)
-
 pub fields_of_line : (r : Record) → Writable r → fields (line_of r) ≡ fields_of r
-fields_of_line r w = fields_of_parted (spelling (kind_of r)) (arguments_of r) (no_tab _ (spelling_free (kind_of r)), fields_tabless (arguments_of r) (arguments_free r w))
+fields_of_line r w = fields_of_parted (spelling (kind_of r)) (arguments_of r) (no_tab _ (spelling_free (kind_of r)), tabless (arguments_of r) (arguments_free r w))
 
 lines_are_free : (rs : List Record) → AllByRecursion Writable rs → AllByRecursion (Free is_newline) (map line_of rs)
 lines_are_free [] w = tt

@@ -1,5 +1,4 @@
 -- What a script says, line by line.
---     number_at n k bs, signed_at n k bs    the number of the field bs, which is field k of line n, or its fault
 --     arity w                               how many fields stand behind the word w
 --     read_as w n args                       the record of the word w with the fields `args` behind it, on line n
 --     judged s n fs                         the record that the fields fs are, on line n and in the state s, or its first fault
@@ -7,13 +6,12 @@
 --     records_from s n ls                   the records of the lines ls, the first being line n, from the state s on, or the first fault
 --     script n bs                          the records of the text bs, the first line being line n, or the first fault
 --     count_of a                           how many records a has, if it is no fault
-use Rattle.std.specs.Prelude.{ℕ, ◌+◌, ◌==◌, ℤ, List, [], ◌∷◌, length, Option, Some, None, Result, Ok, Err, ok_or, slice_index_or, if◌then◌else◌}
+use Rattle.std.specs.Prelude.{ℕ, ◌+◌, ◌==◌, List, [], ◌∷◌, length, Option, Some, None, Result, Ok, Err, slice_index_or, if◌then◌else◌}
 use Rattle.faults.specs.Results.{◌>>=◌}
-use Rattle.faults.specs.declared.field.FieldFault.TheVariants.{NotANumber}
 use Rattle.faults.specs.declared.record.RecordFault.{RecordFault}
-use Rattle.faults.specs.declared.record.RecordFault.TheVariants.{Field, UnknownWord, FieldCount, NotPermitted, EndsInSession}
+use Rattle.faults.specs.declared.record.RecordFault.TheVariants.{UnknownWord, FieldCount, NotPermitted, EndsInSession}
 use Rattle.text.specs.Lines.{lines, fields}
-use Rattle.text.specs.Numbers.{number_of, signed_of}
+use Rattle.text.specs.Numbers.{number_at, signed_at}
 use Rattle.text.specs.Wholes.{whole}
 use Rattle.scripts.specs.Records.{kind_of}
 use Rattle.scripts.specs.States.{permits, after}
@@ -24,12 +22,6 @@ use Rattle.scripts.specs.declared.state.State.{State}
 use Rattle.scripts.specs.declared.state.State.TheVariants.{Rest, Session}
 use Rattle.scripts.specs.declared.word.Word.{Word}
 use Rattle.scripts.specs.declared.word.Word.TheVariants.{Step as StepWord, Undo as UndoWord, Redo as RedoWord, Open as OpenWord, Flip as FlipWord, Clear as ClearWord, Close as CloseWord}
-
-abbrev pub number_at : ℕ → ℕ → List ℕ → Result ℕ RecordFault
-number_at n k bs = ok_or (number_of bs) (Field (NotANumber (record { line = n; field = k })))
-
-abbrev pub signed_at : ℕ → ℕ → List ℕ → Result ℤ RecordFault
-signed_at n k bs = ok_or (signed_of bs) (Field (NotANumber (record { line = n; field = k })))
 
 abbrev pub arity : Word → ℕ
 arity StepWord = 1

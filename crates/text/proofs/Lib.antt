@@ -8,3 +8,4 @@ pub mod LinesLeft
 pub mod ReaderFacts
 pub mod Separators
 pub mod Written
+pub mod WholeTexts

@@ -2,8 +2,9 @@
 use Rattle.std.proofs.Common.{◌≡◌, ◌≢◌, ℕ, ◌<◌, List, [], ◌∷◌, ◌++◌, length, arith, refl, ◌∙◌, ap}
 use Rattle.std.proofs.lemmas.List.{append-nil}
 use Rattle.std.proofs.lemmas.List.Splits.{length-slice_split}
+use Rattle.std.specs.List.{AllByRecursion}
 use Rattle.text.proofs.Cuts.{Free, before_front, after_front, before_yes, after_yes, before_no, after_no, split_free, split_front}
-use Rattle.text.specs.Lines.{is_tab, is_newline, is_separator, first_line, below_first, fields}
+use Rattle.text.specs.Lines.{is_tab, is_newline, is_separator, first_line, below_first, fields, parted}
 
 -- bytes with no separator among them have neither tab nor newline
 pub no_tab : (bs : List ℕ) → Free is_separator bs → Free is_tab bs
@@ -43,3 +44,17 @@ some_field l = omega (arith, length-slice_split is_tab l)
 -- a line with more than four fields
 pub longer : (fs more : List (List ℕ)) (a b c d : List ℕ) → 0 < length more → fs ≡ a ∷ b ∷ c ∷ d ∷ more → ((rest : List (List ℕ)) × (fs ≡ a ∷ rest)) × (length fs ≢ 1) × (length fs ≢ 2) × (length fs ≢ 4)
 longer fs more a b c d some e = ((b ∷ c ∷ d ∷ more, e), (λ l. absurd (omega (arith, some, ap length e, l))), (λ l. absurd (omega (arith, some, ap length e, l))), (λ l. absurd (omega (arith, some, ap length e, l))))
+
+-- fields with no separator in them: a line of them has no newline
+pub tabless : (fs : List (List ℕ)) → AllByRecursion (Free is_separator) fs → AllByRecursion (Free is_tab) fs
+tabless [] free = tt
+tabless (f ∷ fs) free = (no_tab f free.0, tabless fs free.1)
+
+free_append : (xs ys : List ℕ) → Free is_newline xs → Free is_newline ys → Free is_newline (xs ++ ys)
+free_append [] ys x y = y
+free_append (b ∷ xs) ys x y = (x.0, free_append xs ys x.1 y)
+
+pub parted_free : (fs : List (List ℕ)) → AllByRecursion (Free is_separator) fs → Free is_newline (parted fs)
+parted_free [] free = tt
+parted_free (f ∷ []) free = no_newline f free.0
+parted_free (f ∷ g ∷ fs) free = free_append f (9 ∷ parted (g ∷ fs)) (no_newline f free.0) (refl, parted_free (g ∷ fs) free.1)

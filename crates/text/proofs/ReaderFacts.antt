@@ -1,5 +1,5 @@
 -- What every reader keeps. Assumes nothing.
-use Rattle.std.proofs.Common.{ℕ, ◌≤◌, length}
+use Rattle.std.proofs.Common.{◌≤◌, length}
 use Rattle.text.specs.Readers.{text_of, position_of}
 use Rattle.text.specs.declared.reader.Reader.{Reader}
 

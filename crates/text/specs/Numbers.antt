@@ -4,14 +4,19 @@
 --     is_number bs                bs is one to six decimal digits, and begins with 0 only if it is `0`
 --     number_of bs                the number that bs is, if it is one
 --     signed_of bs                the same, where a minus may stand in front, but not in front of `0`
+--     number_at n k bs            the number that bs is, the field k of line n; or the fault that it is none
+--     signed_at n k bs            the same, where a minus may stand in front
 --     WritesNumber n bs           bs is how n is written
 --     WritesSigned z bs           bs is how z is written
-use Rattle.std.specs.Prelude.{◌≡◌, ℕ, ◌≤◌, ℤ, pos, neg_ℤ, unsigned_abs, Bool, ◌&&◌, ◌||◌, ◌==◌, nat_lt, nat_le, List, length, drop, slice_index, Option, Some, None, if◌then◌else◌}
+use Rattle.std.specs.Prelude.{◌≡◌, ℕ, ◌≤◌, ℤ, pos, neg_ℤ, unsigned_abs, Bool, ◌&&◌, ◌||◌, ◌==◌, nat_lt, nat_le, List, length, drop, slice_index, Option, Some, None, Result, ok_or, if◌then◌else◌}
 use Rattle.std.specs.Option.{option_map}
 use Rattle.std.specs.Char.{is_ascii_digit}
 use Rattle.std.specs.Fmt.{decimal, signed_decimal}
 use Rattle.std.specs.List.{list_all}
 use Rattle.std.specs.Str.Parse.{digits_value}
+use Rattle.faults.specs.declared.field.FieldFault.TheVariants.{NotANumber}
+use Rattle.faults.specs.declared.record.RecordFault.{RecordFault}
+use Rattle.faults.specs.declared.record.RecordFault.TheVariants.{Field}
 
 abbrev pub max_digits : ℕ
 max_digits = 6
@@ -32,6 +37,12 @@ negative_of (Some n) = if n == 0 then None else Some (neg_ℤ (pos n))
 
 unfoldable pub signed_of : List ℕ → Option ℤ
 signed_of bs = if slice_index bs 0 == 45 then negative_of (number_of (drop 1 bs)) else option_map pos (number_of bs)
+
+abbrev pub number_at : ℕ → ℕ → List ℕ → Result ℕ RecordFault
+number_at n k bs = ok_or (number_of bs) (Field (NotANumber (record { line = n; field = k })))
+
+abbrev pub signed_at : ℕ → ℕ → List ℕ → Result ℤ RecordFault
+signed_at n k bs = ok_or (signed_of bs) (Field (NotANumber (record { line = n; field = k })))
 
 abbrev pub WritesNumber : ℕ → List ℕ → Type 0
 WritesNumber n bs = (n ≤ max_number) × (bs ≡ decimal n)

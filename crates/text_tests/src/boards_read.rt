@@ -81,50 +81,38 @@ fn faults_of_the_first_line(rt: HostRuntime) {
 
 #[test]
 fn faults_of_the_rows(rt: HostRuntime) {
-    let cases: [(&[u8], usize, (u8, u8, usize, usize)); 22] = [
-        (b"board\t2\t2\t0\n\nrow\t0000\n", 9, (2, 23, 2, 1)),
-        (b"board\t2\t2\t0\nRow\t0000\nrow\t0000\n", 9, (2, 23, 2, 1)),
-        (b"board\t2\t2\t0\nrow\t0000\nstep\t1\n", 9, (2, 23, 3, 1)),
-        (b"board\t2\t2\t0\nrow\nrow\t0000\n", 9, (2, 24, 2, 0)),
-        (
-            b"board\t2\t2\t0\nrow\t0000\t\nrow\t0000\n",
-            9,
-            (2, 24, 2, 0),
-        ),
-        (
-            b"board\t2\t2\t0\nrow\t0000\nrow\t00\t00\n",
-            9,
-            (2, 24, 3, 0),
-        ),
-        (b"board\t2\t2\t0\nrow\t\nrow\t0000\n", 9, (1, 31, 2, 2)),
-        (b"board\t2\t2\t0\nrow\t000\nrow\t0000\n", 9, (1, 31, 2, 2)),
-        (b"board\t2\t2\t0\nrow\t00000\nrow\t0000\n", 9, (1, 31, 2, 2)),
-        (b"board\t2\t2\t0\nrow\t0000\nrow\t000\n", 9, (1, 31, 3, 2)),
-        (
-            b"board\t2\t2\t0\nrow\t0000\nrow\t000000\n",
-            9,
-            (1, 31, 3, 2),
-        ),
-        (b"board\t2\t2\t0\nrow\t000A\nrow\t0000\n", 9, (1, 31, 2, 2)),
-        (b"board\t2\t2\t0\nrow\t0000\nrow\t00g0\n", 9, (1, 31, 3, 2)),
-        (
-            b"board\t2\t2\t0\nrow\t0000\nrow\t000\xb2\n",
-            9,
-            (1, 31, 3, 2),
-        ),
-        (b"board\t2\t2\t0\nrow\t0000\nrow\t 000\n", 9, (1, 31, 3, 2)),
-        (
-            b"board\t2\t2\t0\nrow\t0000\nrow\t0000\r\n",
-            9,
-            (1, 31, 3, 2),
-        ),
-        (b"board\t2\t2\t0\nrow\t0000\n", 9, (2, 32, 3, 0)),
+    let cases: [(&[u8], (u8, u8, usize, usize)); 18] = [
+        (b"board\t2\t2\t0\n\nrow\t0000\n", (2, 23, 2, 1)),
+        (b"board\t2\t2\t0\nRow\t0000\nrow\t0000\n", (2, 23, 2, 1)),
+        (b"board\t2\t2\t0\nrow\t0000\nstep\t1\n", (2, 23, 3, 1)),
+        (b"board\t2\t2\t0\nrow\nrow\t0000\n", (2, 24, 2, 0)),
+        (b"board\t2\t2\t0\nrow\t0000\t\nrow\t0000\n", (2, 24, 2, 0)),
+        (b"board\t2\t2\t0\nrow\t0000\nrow\t00\t00\n", (2, 24, 3, 0)),
+        (b"board\t2\t2\t0\nrow\t\nrow\t0000\n", (1, 31, 2, 2)),
+        (b"board\t2\t2\t0\nrow\t000\nrow\t0000\n", (1, 31, 2, 2)),
+        (b"board\t2\t2\t0\nrow\t00000\nrow\t0000\n", (1, 31, 2, 2)),
+        (b"board\t2\t2\t0\nrow\t0000\nrow\t000\n", (1, 31, 3, 2)),
+        (b"board\t2\t2\t0\nrow\t0000\nrow\t000000\n", (1, 31, 3, 2)),
+        (b"board\t2\t2\t0\nrow\t000A\nrow\t0000\n", (1, 31, 2, 2)),
+        (b"board\t2\t2\t0\nrow\t0000\nrow\t00g0\n", (1, 31, 3, 2)),
+        (b"board\t2\t2\t0\nrow\t0000\nrow\t000\xb2\n", (1, 31, 3, 2)),
+        (b"board\t2\t2\t0\nrow\t0000\nrow\t 000\n", (1, 31, 3, 2)),
+        (b"board\t2\t2\t0\nrow\t0000\nrow\t0000\r\n", (1, 31, 3, 2)),
+        (b"board\t2\t2\t0\nrow\t0000\n", (2, 32, 3, 0)),
         (
             b"board\t2\t4\t0\nrow\t0000\nrow\t0000\nrow\t0000\n",
-            9,
             (2, 32, 5, 0),
         ),
-        // too short a memory is told last
+    ];
+    for (text, numbers) in cases {
+        assert_eq!(rt; fault(&rt, text, 1, 9), Some(numbers));
+    }
+}
+
+// Too short a memory is told last.
+#[test]
+fn memory_is_asked_for_last(rt: HostRuntime) {
+    let cases: [(&[u8], usize, (u8, u8, usize, usize)); 4] = [
         (b"board\t2\t2\t0\nrow\t0000\nrow\t0000\n", 3, (2, 30, 0, 0)),
         (b"board\t2\t2\t0\nrow\t0000\nrow\t0000\n", 0, (2, 30, 0, 0)),
         (b"board\t2\t2\t0\nrow\t0000\nrow\t000x\n", 3, (1, 31, 3, 2)),

@@ -36,8 +36,8 @@ fn scripts_that_are_accepted(rt: HostRuntime) {
 }
 
 #[test]
-fn faults_of_a_single_line(rt: HostRuntime) {
-    let cases: [(&[u8], (u8, u8, usize, usize)); 34] = [
+fn faults_of_words_and_counts(rt: HostRuntime) {
+    let cases: [(&[u8], (u8, u8, usize, usize)); 22] = [
         // no newline at the end
         (b"u", (2, 21, 1, 0)),
         (b"undo", (2, 21, 1, 0)),
@@ -63,6 +63,15 @@ fn faults_of_a_single_line(rt: HostRuntime) {
         (b"flip\t1\t2\n", (2, 24, 1, 0)),
         (b"flip\t1\t2\t3\t4\n", (2, 24, 1, 0)),
         (b"close\tx\n", (2, 24, 1, 0)),
+    ];
+    for (text, numbers) in cases {
+        assert_eq!(rt; fault(text, 1), Some(numbers));
+    }
+}
+
+#[test]
+fn faults_of_states_and_numbers(rt: HostRuntime) {
+    let cases: [(&[u8], (u8, u8, usize, usize)); 12] = [
         // not permitted
         (b"close\n", (2, 25, 1, 0)),
         (b"clear\n", (2, 25, 1, 0)),

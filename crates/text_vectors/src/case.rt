@@ -4,7 +4,7 @@ use std::alloc::Global;
 
 // A text, what to read it as, the number of its first line, and how many cells the memory has.
 #[derive(Drop)]
-pub struct Case {
+pub(crate) struct Case {
     pub board: bool,
     pub first_line: u32,
     pub room: usize,
@@ -20,7 +20,7 @@ fn bytes_of(alloc: Global, digits: &str) -> anyhow::Result<Vec<u8>> {
 }
 
 impl Case {
-    pub fn parse(alloc: Global, line: &str) -> anyhow::Result<Case> {
+    pub(crate) fn parse(alloc: Global, line: &str) -> anyhow::Result<Case> {
         let mut fields = line.split(' ');
         let board = match fields.next() {
             Some("board") => true,

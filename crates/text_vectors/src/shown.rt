@@ -74,7 +74,7 @@ fn show_board(rt: &HostRuntime, case: &Case) -> anyhow::Result<()> {
     Ok(())
 }
 
-pub fn show(rt: &HostRuntime, case: &Case) -> anyhow::Result<()> {
+pub(crate) fn show(rt: &HostRuntime, case: &Case) -> anyhow::Result<()> {
     if case.board {
         show_board(rt, case)
     } else {
