@@ -651,7 +651,6 @@ check("each cause has a file", met, {1, 2, 3, 20, 21, 22, 23, 24, 25, 26, 31, 32
 files = dict(read_texts.FILES)
 check("too long by a byte", len(files["too_long.script"]), 65537)
 check("good but for its length", SCRIPT.fullmatch(files["too_long.script"]) is not None, True)
-check("as long as it may be", len(files["longest.script"]), 65536)
 for name, printed in [
     ("good.script", "good.script\tscript\t10\n"),
     ("empty.script", "empty.script\tscript\t0\n"),

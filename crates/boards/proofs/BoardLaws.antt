@@ -1,4 +1,4 @@
--- A written board is read as itself, and a board that is read was written so. Assumes nothing.
+-- Of lines: those of a written board are read as it, and a board that lines are read as is written so. Assumes nothing.
 use Rattle.std.proofs.Common.{◌≡◌, ℕ, suc, zero, ◌+◌, ◌*◌, ◌≤◌, List, [], ◌∷◌, ◌++◌, length, take, drop, map, flat_map, Ok, Result, arith, refl, sym, ◌∙◌, ap, subst, codes, None}
 use Rattle.std.proofs.Math.Nat.{suc-mul}
 use Rattle.std.proofs.lemmas.List.{append_assoc, take_at, drop_at, length-append, length-take-le, length-drop, take-append-drop}
@@ -14,7 +14,7 @@ use Rattle.text.proofs.EndedLines.{ended_by_fields, fields_of_parted, lines_of_f
 use Rattle.text.proofs.FreeNumbers.{decimal_free}
 use Rattle.text.proofs.LineFields.{no_tab, parted_free}
 use Rattle.text.specs.Lines.{is_newline, lines, ended, parted, fields}
-use Rattle.boards.proofs.BoardLines.{StartRead, start_read, start_written, RowRead, row_read, row_written}
+use Rattle.boards.proofs.BoardLines.{StartRead, start_from_fields, start_written, RowRead, row_from_fields, row_written}
 use Rattle.boards.proofs.HexText.{AreBytes, hex_free}
 use Rattle.boards.specs.Boards.{hex, rows, start_line, row_line, board_text}
 use Rattle.boards.specs.Reading.{on_first, start_at, row_at, rows_from, board_from, empty}
@@ -37,16 +37,16 @@ bytes_append (b ∷ xs) ys x y = (x.0, bytes_append xs ys x.1 y)
 first_row : (w h : ℕ) (xs ys : List ℕ) → length xs ≡ w → rows w (suc h) (xs ++ ys) ≡ xs ∷ rows w h ys
 first_row w h xs ys count = ap (λ x. x ∷ rows w h (drop w (xs ++ ys))) (take_at xs ys w count) ∙ ap (λ x. xs ∷ rows w h x) (drop_at xs ys w count)
 
-pub rows_were : (w h n : ℕ) (ls : List (List ℕ)) (cs : List ℕ) → rows_from w h n ls ≡ Ok cs → RowsWere w h ls cs
-rows_were w zero n ls cs is = let none : [] ≡ cs = cc in subst (RowsWere w zero ls) none (record { text = refl; count = omega arith; bytes = tt })
-rows_were w (suc h) n ls cs is =
+pub rows_read_from : (w h n : ℕ) (ls : List (List ℕ)) (cs : List ℕ) → rows_from w h n ls ≡ Ok cs → RowsWere w h ls cs
+rows_read_from w zero n ls cs is = let none : [] ≡ cs = cc in subst (RowsWere w zero ls) none (record { text = refl; count = omega arith; bytes = tt })
+rows_read_from w (suc h) n ls cs is =
     let first = went_on (on_first (row_at w) n ls) (λ xs. rows_from w h (n + 1) (drop 1 ls) >>= λ ys. Ok (xs ++ ys)) cs is in
     let second = went_on (rows_from w h (n + 1) (drop 1 ls)) (λ ys. Ok (first.0 ++ ys)) cs first.2 in
     let xs : List ℕ = first.0 in
     let ys : List ℕ = second.0 in
     let line = first_was (row_at w) n ls xs first.1 in
-    let row : RowRead w (fields line.0) xs = row_read w n (fields line.0) xs line.3 in
-    let below : RowsWere w h (drop 1 ls) ys = rows_were w h (n + 1) (drop 1 ls) ys second.1 in
+    let row : RowRead w (fields line.0) xs = row_from_fields w n (fields line.0) xs line.3 in
+    let below : RowsWere w h (drop 1 ls) ys = rows_read_from w h (n + 1) (drop 1 ls) ys second.1 in
     let rest : drop 1 ls ≡ line.1 = ap (drop 1) line.2 in
     let here : ended line.0 ≡ row_line xs = ended_by_fields line.0 (codes "row" ∷ flat_map hex xs ∷ []) row.written in
     let same : xs ++ ys ≡ cs = cc (second.2) in
@@ -69,15 +69,15 @@ pub record BoardWas (ls : List (List ℕ)) (l : Lattice) : Type 0 where
   pub count : length l.cells ≡ l.height * l.width
   pub bytes : AreBytes l.cells
 
-pub board_was : (n : ℕ) (ls : List (List ℕ)) (l : Lattice) → board_from n ls ≡ Ok l → BoardWas ls l
-board_was n ls l is =
+pub board_read_from : (n : ℕ) (ls : List (List ℕ)) (l : Lattice) → board_from n ls ≡ Ok l → BoardWas ls l
+board_read_from n ls l is =
     let first = went_on (on_first start_at n ls) (λ s. rows_from s.width s.height (n + 1) (drop 1 ls) >>= λ cs. Ok (with_cells s cs)) l is in
     let s : Lattice = first.0 in
     let second = went_on (rows_from s.width s.height (n + 1) (drop 1 ls)) (λ cs. Ok (with_cells s cs)) l first.2 in
     let cs : List ℕ = second.0 in
     let line = first_was start_at n ls s first.1 in
-    let start : StartRead (fields line.0) s = start_read n (fields line.0) s line.3 in
-    let below : RowsWere s.width s.height (drop 1 ls) cs = rows_were s.width s.height (n + 1) (drop 1 ls) cs second.1 in
+    let start : StartRead (fields line.0) s = start_from_fields n (fields line.0) s line.3 in
+    let below : RowsWere s.width s.height (drop 1 ls) cs = rows_read_from s.width s.height (n + 1) (drop 1 ls) cs second.1 in
     let rest : drop 1 ls ≡ line.1 = ap (drop 1) line.2 in
     let here : ended line.0 ≡ start_line s.width s.height s.phase = ended_by_fields line.0 (codes "board" ∷ decimal s.width ∷ decimal s.height ∷ decimal s.phase ∷ []) start.written in
     let same : with_cells s cs ≡ l = cc (second.2) in

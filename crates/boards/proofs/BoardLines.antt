@@ -54,8 +54,8 @@ three n (a ∷ b ∷ []) l len is = absurd (omega arith)
 three n (a ∷ b ∷ c ∷ d ∷ args) l len is = absurd (omega arith)
 three n (a ∷ b ∷ c ∷ []) l len is = numbers_read n a b c l is
 
-pub start_read : (n : ℕ) (fs : List (List ℕ)) (l : Lattice) → start_at n fs ≡ Ok l → StartRead fs l
-start_read n fs l is =
+pub start_from_fields : (n : ℕ) (fs : List (List ℕ)) (l : Lattice) → start_at n fs ≡ Ok l → StartRead fs l
+start_from_fields n fs l is =
     let p = line_read (codes "board") 3 n fs (λ args. numbers_at n (slice_index_or args 0 []) (slice_index_or args 1 []) (slice_index_or args 2 [])) l is in
     subst (λ (gs : List (List ℕ)). StartRead gs l) (sym p.1) (three n p.0 l p.2 p.3)
 
@@ -82,8 +82,8 @@ one w n (a ∷ []) cs len is =
     let same : cells_of a ≡ cs = cc (p.1) in
     subst (RowRead w (codes "row" ∷ a ∷ [])) same (record { written = ap (λ x. codes "row" ∷ x ∷ []) r.written; count = r.count; bytes = r.bytes })
 
-pub row_read : (w n : ℕ) (fs : List (List ℕ)) (cs : List ℕ) → row_at w n fs ≡ Ok cs → RowRead w fs cs
-row_read w n fs cs is =
+pub row_from_fields : (w n : ℕ) (fs : List (List ℕ)) (cs : List ℕ) → row_at w n fs ≡ Ok cs → RowRead w fs cs
+row_from_fields w n fs cs is =
     let p = line_read (codes "row") 1 n fs (λ args. digits_at w n (slice_index_or args 0 [])) cs is in
     subst (λ (gs : List (List ℕ)). RowRead w gs cs) (sym p.1) (one w n p.0 cs p.2 p.3)
 

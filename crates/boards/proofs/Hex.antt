@@ -1,4 +1,4 @@
--- Cells and their digits. Assumes nothing.
+-- What cells the digits of a row are, two digits more each time. Assumes nothing.
 use Rattle.std.proofs.Common.{◌≡◌, ℕ, suc, zero, ◌+◌, ◌*◌, ◌<◌, List, [], ◌∷◌, ◌++◌, length, take, get_or, set, arith, refl, sym, ◌∙◌, ap}
 use Rattle.std.proofs.lemmas.List.{length-take-le, take_more, take_more_set, take_all, append_assoc}
 use Rattle.std.specs.Char.{digit_value}

@@ -9,7 +9,7 @@ use Rattle.text.specs.Lines.{lines}
 use Rattle.text.specs.Readers.{text_of, position_of, line_of}
 use Rattle.text.specs.Wholes.{whole}
 use Rattle.text.specs.declared.reader.Reader.{Reader}
-use Rattle.boards.proofs.BoardLaws.{rows_were}
+use Rattle.boards.proofs.BoardLaws.{rows_read_from}
 use Rattle.boards.specs.Reading.{board, board_from, rows_from, on_first, start_at}
 use Rattle.boards.specs.Steps.{lines_left, LineDown}
 
@@ -20,9 +20,9 @@ pub record BoardParts (n : ℕ) (ls : List (List ℕ)) (l : Lattice) : Type 0 wh
   pub rows : rows_from start.width start.height (n + 1) (drop 1 ls) ≡ Ok cells
   pub is : with_cells start cells ≡ l
 
-pub board_parts : (n : ℕ) (bs : List ℕ) (l : Lattice) → board n bs ≡ Ok l → BoardParts n (lines bs) l
+pub parts_of_board : (n : ℕ) (bs : List ℕ) (l : Lattice) → board n bs ≡ Ok l → BoardParts n (lines bs) l
 unfolding board
-board_parts n bs l e =
+parts_of_board n bs l e =
     let good = went_on (whole n bs) (λ _. board_from n (lines bs)) l e in
     let first = went_on (on_first start_at n (lines bs)) (λ s. rows_from s.width s.height (n + 1) (drop 1 (lines bs)) >>= λ cs. Ok (with_cells s cs)) l good.2 in
     let second = went_on (rows_from first.0.width first.0.height (n + 1) (drop 1 (lines bs))) (λ cs. Ok (with_cells first.0 cs)) l first.2 in
@@ -31,7 +31,7 @@ board_parts n bs l e =
 -- the rows that are left behind the line of a board
 pub rows_left : (n : ℕ) (bs : List ℕ) (l : Lattice) (r t : Reader) (s : Start) → board n bs ≡ Ok l → text_of r ≡ bs → position_of r ≡ 0 → line_of r ≡ n → on_first start_at (line_of r) (lines_left r) ≡ Ok (held s []) → LineDown r t → rows_from (width_of s) (height_of s) (line_of t) (lines_left t) ≡ Ok l.cells
 rows_left n bs l r t s e text begin line first down =
-    let p : BoardParts n (lines bs) l = board_parts n bs l e in
+    let p : BoardParts n (lines bs) l = parts_of_board n bs l e in
     let all : lines_left r ≡ lines bs = ap lines (ap (λ k. drop k (text_of r)) begin ∙ text) in
     let first' : on_first start_at n (lines bs) ≡ Ok (held s []) = sym (ap (λ k. on_first start_at k (lines_left r)) line ∙ ap (on_first start_at n) all) ∙ first in
     let same : p.start ≡ held s [] = cc (p.first, first') in
@@ -42,4 +42,4 @@ rows_left n bs l r t s e text begin line first down =
 
 -- so many cells are in them
 pub cells_counted : (w h n : ℕ) (ls : List (List ℕ)) (cs : List ℕ) → rows_from w h n ls ≡ Ok cs → length cs ≡ h * w
-cells_counted w h n ls cs e = (rows_were w h n ls cs e).count
+cells_counted w h n ls cs e = (rows_read_from w h n ls cs e).count

@@ -1,5 +1,5 @@
 -- Bytes that are written behind others. Assumes nothing.
-use Rattle.std.proofs.Common.{◌≡◌, ℕ, ◌+◌, ◌-◌, ◌*◌, ◌<◌, ◌≤◌, ◌/◌, ◌%◌, List, [], ◌∷◌, ◌++◌, length, get_or, take, drop, take-append-drop, flat_map, arith, sym, ◌∙◌, ap, suc, zero, codes, subst}
+use Rattle.std.proofs.Common.{◌≡◌, ℕ, ◌+◌, ◌-◌, ◌*◌, ◌<◌, ◌≤◌, ◌/◌, ◌%◌, List, [], ◌∷◌, ◌++◌, length, get_or, take, drop, flat_map, arith, sym, ◌∙◌, ap, suc, zero, codes, subst}
 use Rattle.std.proofs.Math.Nat.{suc-mul}
 use Rattle.std.proofs.lemmas.Fmt.{decimal_digit, decimal_step}
 use Rattle.std.proofs.lemmas.List.{append_assoc, append-nil, take_more, length-append, length-take-le, length-drop, take_at, drop_at, drop-drop}
@@ -10,9 +10,6 @@ use Rattle.boards.proofs.Rows.{next_place, place_within}
 use Rattle.boards.specs.Boards.{hex, rows, start_line, row_line, rows_text}
 use Rattle.text.specs.Lines.{parted}
 use Rattle.boards.specs.Puts.{put_at}
-
-pub length-put_at : (m : List ℕ) (a : ℕ) (xs : List ℕ) → a + length xs ≤ length m → length (put_at m a xs) ≡ length m
-length-put_at m a xs room = omega (arith, length-append (take a m) (xs ++ drop (a + length xs) m), length-append xs (drop (a + length xs) m), length-take-le a m (omega arith), length-drop (a + length xs) m)
 
 pub put_two : (m : List ℕ) (a : ℕ) (xs ys : List ℕ) → a + length xs + length ys ≤ length m → put_at (put_at m a xs) (a + length xs) ys ≡ put_at m a (xs ++ ys)
 put_two m a xs ys room =
@@ -48,10 +45,6 @@ two_long n low high = ap length (two_digits n low high)
 
 pub three_long : (n : ℕ) → 100 ≤ n → n ≤ 999 → length (decimal n) ≡ 3
 three_long n low high = ap length (three_digits n low high)
-
--- nothing is written
-pub put_none : (m : List ℕ) (a : ℕ) → put_at m a [] ≡ m
-put_none m a = let none : a + 0 ≡ a = omega arith in ap (λ k. take a m ++ drop k m) none ∙ take-append-drop a m
 
 -- one cell more
 pub cell_put : (m cs : List ℕ) (a i end : ℕ) (now new : List ℕ) (c : ℕ) → i < length cs → a + 2 * length cs ≤ length m → end ≡ a + 2 * i → now ≡ put_at m a (flat_map hex (take i cs)) → c ≡ get_or cs i 0 → new ≡ put_at now end (hex c) → new ≡ put_at m a (flat_map hex (take (i + 1) cs))

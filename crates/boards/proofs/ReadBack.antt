@@ -1,4 +1,4 @@
--- The text of a board alone is read as the lattice that it was written of. Assumes nothing.
+-- Of a memory with nothing but a board, as `write_board` promises: it is read as the lattice that it was written of. Assumes nothing.
 use Rattle.std.proofs.Common.{◌≡◌, ℕ, suc, zero, ◌+◌, ◌*◌, ◌≤◌, List, [], ◌∷◌, ◌++◌, length, take, drop, map, flat_map, true, Ok, Err, Result, IfOk, arith, sym, ◌∙◌, ap}
 use Rattle.std.proofs.Math.Nat.{mul_comm, suc-mul}
 use Rattle.std.proofs.lemmas.List.{append-nil, length-append, take_at}
@@ -16,7 +16,7 @@ use Rattle.boards.proofs.RoundTrips.{written_board}
 use Rattle.boards.proofs.WholeBoards.{board_length}
 use Rattle.boards.specs.Boards.{rows, start_line, board_text}
 use Rattle.boards.specs.Reading.{board}
-use Rattle.boards.specs.Refusals.{BoardWritten}
+use Rattle.boards.specs.Answers.{BoardWritten}
 use Rattle.boards.specs.declared.refusal.BoardRefusal.{BoardRefusal}
 use Rattle.boards.specs.declared.refusal.BoardRefusal.TheVariants.{Cells, MemoryTooShort}
 

@@ -1,4 +1,4 @@
--- A written board is read as itself, and what was read is what is written of it. Assumes nothing.
+-- Of texts and memory, as `read_board` promises: a written board is read as itself, and what was read is written so. Assumes nothing.
 use Rattle.std.proofs.Common.{◌≡◌, ℕ, ◌+◌, ◌*◌, ◌≤◌, List, length, take, drop, flat_map, true, None, Ok, Err, Result, IfOk, arith, refl, sym, ◌∙◌, ap, subst}
 use Rattle.std.proofs.Math.Nat.{mul_comm}
 use Rattle.std.proofs.lemmas.Bool.{le-leb}
@@ -16,7 +16,7 @@ use Rattle.text.proofs.EndedLines.{text_is_its_lines}
 use Rattle.text.proofs.WholeTexts.{whole_accepted, whole_passes}
 use Rattle.text.specs.Lines.{lines, ended}
 use Rattle.text.specs.Wholes.{finished, whole}
-use Rattle.boards.proofs.BoardLaws.{BoardWas, board_was, board_taken, lines_of_board}
+use Rattle.boards.proofs.BoardLaws.{BoardWas, board_read_from, board_taken, lines_of_board}
 use Rattle.boards.proofs.Found.{FoundBoard, found_count}
 use Rattle.boards.proofs.HexText.{bytes_one_by_one}
 use Rattle.boards.specs.Answers.{BoardFound, BoardRead, BeginsWith}
@@ -54,7 +54,7 @@ unfolding board
 board_bytes n bs l is =
     let good = went_on (whole n bs) (λ _. board_from n (lines bs)) l is in
     let ends : finished bs ≡ true = (whole_accepted n bs good.1).1 in
-    let was : BoardWas (lines bs) l = board_was n (lines bs) l good.2 in
+    let was : BoardWas (lines bs) l = board_read_from n (lines bs) l good.2 in
     ap (take (length (board_text l))) (text_is_its_lines bs ends ∙ was.text) ∙ take_at (board_text l) (flat_map ended (drop (l.height + 1) (lines bs))) (length (board_text l)) refl
 
 read_at : (n : ℕ) (bs old new : List ℕ) (r : Result (Start × ℕ) RecordFault) (a : Result Lattice RecordFault) → board n bs ≡ a → BoardRead a old new r → IfOk r (λ x. take x.1 bs ≡ board_text (held x.0 (take (width_of x.0 * height_of x.0) new)))

@@ -8,7 +8,7 @@ use Rattle.lattice.specs.declared.start.Start.{Start}
 use Rattle.boards.proofs.Puts.{put_two, length-rows_text}
 use Rattle.boards.specs.Boards.{start_line, rows_text, board_text}
 use Rattle.boards.specs.Puts.{put_at}
-use Rattle.boards.specs.Refusals.{BoardWritten}
+use Rattle.boards.specs.Answers.{BoardWritten}
 use Rattle.boards.specs.declared.refusal.BoardRefusal.TheVariants.{MemoryTooShort}
 
 pub board_length : (s : Start) (cs : List ℕ) → Whole (held s cs) → length (board_text (held s cs)) ≡ length (start_line (width_of s) (height_of s) (phase_of s)) + height_of s * (2 * width_of s + 5)
@@ -19,8 +19,8 @@ board_length s cs whole =
 pub board_too_long : (s : Start) (cs m : List ℕ) (rows : ℕ) → Whole (held s cs) → rows ≡ length (start_line (width_of s) (height_of s) (phase_of s)) → length m < rows + height_of s * (2 * width_of s + 5) → BoardWritten s cs m m (Err MemoryTooShort)
 board_too_long s cs m rows whole is long = (whole, omega (arith, board_length s cs whole, is, long), refl)
 
-pub board_written : (s : Start) (cs m one two zeros line : List ℕ) (rows : ℕ) → Whole (held s cs) → line ≡ put_at zeros 0 (start_line (width_of s) (height_of s) (phase_of s)) → rows ≡ length (start_line (width_of s) (height_of s) (phase_of s)) → one ≡ put_at m 0 (take rows line) → two ≡ put_at one rows (rows_text (width_of s) (height_of s) cs) → rows + height_of s * (2 * width_of s + 5) ≤ length m → BoardWritten s cs m two (Ok (rows + height_of s * (2 * width_of s + 5)))
-board_written s cs m one two zeros line rows whole line-is rows-is first second room =
+pub board_put : (s : Start) (cs m one two zeros line : List ℕ) (rows : ℕ) → Whole (held s cs) → line ≡ put_at zeros 0 (start_line (width_of s) (height_of s) (phase_of s)) → rows ≡ length (start_line (width_of s) (height_of s) (phase_of s)) → one ≡ put_at m 0 (take rows line) → two ≡ put_at one rows (rows_text (width_of s) (height_of s) cs) → rows + height_of s * (2 * width_of s + 5) ≤ length m → BoardWritten s cs m two (Ok (rows + height_of s * (2 * width_of s + 5)))
+board_put s cs m one two zeros line rows whole line-is rows-is first second room =
     let start : List ℕ = start_line (width_of s) (height_of s) (phase_of s) in
     let below : List ℕ = rows_text (width_of s) (height_of s) cs in
     let front : take rows line ≡ start = ap (take rows) line-is ∙ take_at start (drop (0 + length start) zeros) rows (sym rows-is) in

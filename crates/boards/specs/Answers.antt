@@ -1,15 +1,18 @@
--- What the calls that read a board answer.
+-- What the calls that read and write boards answer.
 --     BoardFound a r             r is what looking for the board a answers: its start record, and how many bytes its text has; or its fault
 --     BoardRead a old new r      r is what reading the board a into a memory of `old` answers, which then holds `new`
 --     BeginsWith l bs            bs is a text that begins with the lattice l
-use Rattle.std.specs.Prelude.{◌≡◌, ℕ, ◌<◌, ◌≤◌, List, ◌++◌, length, drop, Result, Ok, Err, IsTrue}
+--     BoardWritten s cs old new r     r is what writing the lattice of s and the cells cs into a memory of `old` answers, which then holds `new`
+use Rattle.std.specs.Prelude.{◌≡◌, ◌≢◌, ℕ, ◌*◌, ◌<◌, ◌≤◌, List, ◌++◌, length, drop, Result, Ok, Err, IsTrue}
 use Rattle.faults.specs.declared.record.RecordFault.{RecordFault}
 use Rattle.faults.specs.declared.record.RecordFault.TheVariants.{CellsTooShort}
 use Rattle.lattice.specs.Lattice.{Lattice, Whole, Within}
-use Rattle.lattice.specs.Starts.{StartOf}
+use Rattle.lattice.specs.Starts.{width_of, height_of, held, StartOf}
 use Rattle.lattice.specs.declared.start.Start.{Start}
 use Rattle.text.specs.Wholes.{max_text, finished}
 use Rattle.boards.specs.Boards.{board_text}
+use Rattle.boards.specs.declared.refusal.BoardRefusal.{BoardRefusal}
+use Rattle.boards.specs.declared.refusal.BoardRefusal.TheVariants.{Cells, MemoryTooShort}
 
 abbrev pub BoardFound : Result Lattice RecordFault → Result (Start × ℕ) RecordFault → Type 0
 BoardFound (Ok l) (Ok x) = StartOf l x.0 × (x.1 ≡ length (board_text l))
@@ -30,3 +33,8 @@ pub record BeginsWith (l : Lattice) (bs : List ℕ) : Type 0 where
   pub text : bs ≡ board_text l ++ more
   pub short : length bs ≤ max_text
   pub finished : IsTrue (finished bs)
+
+abbrev pub BoardWritten : Start → List ℕ → List ℕ → List ℕ → Result ℕ BoardRefusal → Type 0
+BoardWritten s cs old new (Ok n) = (length cs ≡ width_of s * height_of s) × (n ≡ length (board_text (held s cs))) × (n ≤ length old) × (new ≡ board_text (held s cs) ++ drop n old)
+BoardWritten s cs old new (Err Cells) = (length cs ≢ width_of s * height_of s) × (new ≡ old)
+BoardWritten s cs old new (Err MemoryTooShort) = (length cs ≡ width_of s * height_of s) × (length old < length (board_text (held s cs))) × (new ≡ old)

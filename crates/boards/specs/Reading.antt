@@ -1,9 +1,11 @@
 -- What a text says as a board, line by line.
+--     unless_refused n r l    the lattice l, if there is no refusal r of a start record; else the fault of line n
 --     sides_at n w h p        sides and phase w, h, p, if they are those of a start record; else the fault of line n
 --     numbers_at n a b c      the same by the fields a, b, c of line n, or its first fault
 --     start_at n fs           sides and phase by the fields fs of line n, or its first fault
 --     is_hex b                b is the byte of a hexadecimal digit in lower case
 --     cells_of bs             the cells that the digits bs are, two digits each
+--     digits_at w n bs        the w cells that the field bs of line n is, or its fault
 --     row_at w n fs           the w cells of a row by the fields fs of line n, or its first fault
 --     on_first f n ls         f of the fields of the first of the lines ls, which is line n; a fault if there is none
 --     rows_from w h n ls      the cells of h rows, the first on line n, where ls are the lines from there on; or the first fault

@@ -42,9 +42,9 @@ fn fill_cells(text: &[u8], first_line: u32, cells: &mut [u8]) -> Result<(), Reco
     requires { (l : Lattice) × (board first_line text.now ≡ Ok l) × (length cells.old ≡ length l.cells) }
     ensures { IsOkAnd result (λ _. (l : Lattice) → board first_line text.now ≡ Ok l → cells.new ≡ l.cells) }
 {
-    let mut rows = Reader::new(text, first_line);
-    let start = read_start(&mut rows)?;
-    fill_rows(&mut rows, start.width(), start.height(), cells)
+    let mut reader = Reader::new(text, first_line);
+    let start = read_start(&mut reader)?;
+    fill_rows(&mut reader, start.width(), start.height(), cells)
 }
 
 // Reads the board with which the text begins.

@@ -2,10 +2,10 @@
 ghost use Rattle.std.specs.Prelude.{◌≡◌, ◌+◌, ◌*◌, ◌≤◌, ℕ, length, take, IfOk, Ok};
 ghost use Rattle.lattice.specs.Lattice.{Whole};
 ghost use Rattle.lattice.specs.Starts.{width_of, height_of, phase_of, held};
+ghost use Rattle.boards.specs.Answers.{BoardWritten};
 ghost use Rattle.boards.specs.Boards.{start_line, row_line, rows_text};
 ghost use Rattle.boards.specs.Puts.{put_at};
 ghost use Rattle.boards.specs.Reading.{board};
-ghost use Rattle.boards.specs.Refusals.{BoardWritten};
 
 use crate::put::{put, put_cells, put_number};
 use crate::refusal::BoardRefusal;
@@ -47,30 +47,30 @@ fn put_start(start: &Start, line: &mut [u8]) -> usize
     ensures behind { result ≡ length (start_line (width_of start.now) (height_of start.now) (phase_of start.now)) }
     ensures short { result ≤ LINE_ROOM }
 {
-    let width = put(b"board\t", line, 0);
-    let width_end = put_number(start.width(), line, width);
-    let height = put(b"\t", line, width_end);
-    let height_end = put_number(start.height(), line, height);
-    let phase = put(b"\t", line, height_end);
-    let phase_end = put_number(start.phase() as usize, line, phase);
+    let width_at = put(b"board\t", line, 0);
+    let width_end = put_number(start.width(), line, width_at);
+    let height_at = put(b"\t", line, width_end);
+    let height_end = put_number(start.height(), line, height_at);
+    let phase_at = put(b"\t", line, height_end);
+    let phase_end = put_number(start.phase() as usize, line, phase_at);
     put(b"\n", line, phase_end)
 }
 
 // Writes a whole lattice, where there is room for it.
-#[tactic(auto, using(crate::proofs::WholeBoards::board_too_long, crate::proofs::WholeBoards::board_written))]
+#[tactic(auto, using(crate::proofs::WholeBoards::board_too_long, crate::proofs::WholeBoards::board_put))]
 fn write_whole(start: &Start, cells: &[u8], memory: &mut [u8]) -> Result<usize, BoardRefusal>
     requires { Whole (held start.now cells.now) }
     ensures { BoardWritten start.now cells.now memory.old memory.new result }
 {
     let (width, height) = (start.width(), start.height());
     let mut line = [0; LINE_ROOM];
-    let rows = put_start(start, &mut line);
-    let len = rows + height * (2 * width + 5);
+    let rows_at = put_start(start, &mut line);
+    let len = rows_at + height * (2 * width + 5);
     if memory.len() < len {
         return Err(BoardRefusal::MemoryTooShort);
     }
-    put(&line[..rows], memory, 0);
-    put_rows(width, height, cells, memory, rows);
+    put(&line[..rows_at], memory, 0);
+    put_rows(width, height, cells, memory, rows_at);
     Ok(len)
 }
 

@@ -182,19 +182,19 @@ flip_fault n w (a ∷ b ∷ []) e len is = absurd (omega arith)
 flip_fault n w (a ∷ b ∷ c ∷ d ∷ args) e len is = absurd (omega arith)
 flip_fault n w (a ∷ b ∷ c ∷ []) e len is = flip_first n w a b c e (number_of a) refl is
 
-number_fault : (n : ℕ) (k : Word) (w : List ℕ) (args : List (List ℕ)) (e : RecordFault) → length args ≡ arity k → read_as k n args ≡ Err e → NumberFault k n (w ∷ args) e
-number_fault n W.Step w args e len is = step_fault n w args e len is
-number_fault n W.Flip w args e len is = flip_fault n w args e len is
-number_fault n W.Undo w args e len is = absurd cc
-number_fault n W.Redo w args e len is = absurd cc
-number_fault n W.Open w args e len is = absurd cc
-number_fault n W.Clear w args e len is = absurd cc
-number_fault n W.Close w args e len is = absurd cc
+fault_of_numbers : (n : ℕ) (k : Word) (w : List ℕ) (args : List (List ℕ)) (e : RecordFault) → length args ≡ arity k → read_as k n args ≡ Err e → NumberFault k n (w ∷ args) e
+fault_of_numbers n W.Step w args e len is = step_fault n w args e len is
+fault_of_numbers n W.Flip w args e len is = flip_fault n w args e len is
+fault_of_numbers n W.Undo w args e len is = absurd cc
+fault_of_numbers n W.Redo w args e len is = absurd cc
+fault_of_numbers n W.Open w args e len is = absurd cc
+fault_of_numbers n W.Clear w args e len is = absurd cc
+fault_of_numbers n W.Close w args e len is = absurd cc
 
 -- the causes of a line in their order
 state_fault : (k : Word) (s : State) (n : ℕ) (w : List ℕ) (args : List (List ℕ)) (e : RecordFault) (may : Bool) → w ≡ spelling k → length args ≡ arity k → permits s k ≡ may → cond may (read_as k n args) (Err (NotPermitted n)) ≡ Err e → LineFault s n (w ∷ args) e
 state_fault k s n w args e true spelled count may is =
-    let p = number_fault n k w args e count is in
+    let p = fault_of_numbers n k w args e count is in
     subst (LineFault s n (w ∷ args)) (sym p.is) (refl, (k, (spelled, omega (arith, count)), may, p.first))
 state_fault k s n w args e false spelled count may is =
     let same : NotPermitted n ≡ e = fault_is (Err (NotPermitted n)) (NotPermitted n) e refl is in

@@ -9,7 +9,7 @@ use Rattle.text.proofs.Cuts.{Free}
 use Rattle.text.proofs.EndedLines.{ended_by_fields}
 use Rattle.text.specs.Lines.{is_newline, ended, fields}
 use Rattle.scripts.proofs.Judged.{judged_ok, judged_err, IsRecord}
-use Rattle.scripts.specs.Judgements.{judged, at_end, records_from, in_front}
+use Rattle.scripts.specs.Judgements.{judged, end_of_text, records_from, in_front}
 use Rattle.scripts.specs.Laws.{LineFault}
 use Rattle.scripts.specs.Records.{kind_of, fields_of, written, script_of, Writable}
 use Rattle.scripts.specs.States.{after, Leads}
@@ -40,7 +40,7 @@ pub record OpenFrom (s : State) (n : ℕ) (ls : List (List ℕ)) (e : RecordFaul
 abbrev pub FaultFrom : State → ℕ → List (List ℕ) → RecordFault → Type 0
 FaultFrom s n ls e = FaultyFrom s n ls e ⊎ OpenFrom s n ls e
 
-fault_at_end : (s : State) (n : ℕ) (e : RecordFault) → at_end s n ≡ Err e → FaultFrom s n [] e
+fault_at_end : (s : State) (n : ℕ) (e : RecordFault) → end_of_text s n ≡ Err e → FaultFrom s n [] e
 fault_at_end Rest n e is = absurd cc
 fault_at_end Session n e is =
     let here : EndsInSession (n + 0) ≡ EndsInSession n = ap EndsInSession (omega arith) in

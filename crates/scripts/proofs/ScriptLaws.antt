@@ -1,24 +1,20 @@
 -- What a whole text is read as, and what is wrong with it, in the words of who writes it. Assumes nothing.
-use Rattle.std.proofs.Common.{◌≡◌, ℕ, ◌+◌, ◌≤◌, List, length, map, flat_map, true, Ok, Err, Result, IfOk, refl, ◌∙◌, ap, sym, subst, inl, inr}
+use Rattle.std.proofs.Common.{◌≡◌, ℕ, ◌+◌, ◌≤◌, List, length, map, true, Ok, Err, Result, IfOk, refl, ◌∙◌, ap, sym, subst, inl, inr}
 use Rattle.faults.proofs.Joined.{went_on}
 use Rattle.text.proofs.WholeTexts.{whole_accepted, whole_passes, whole_refused}
 use Rattle.faults.specs.Results.{◌>>=◌}
 use Rattle.faults.specs.declared.record.RecordFault.{RecordFault}
 use Rattle.faults.specs.declared.record.RecordFault.TheVariants.{Field, TooLong, Unfinished, UnknownWord, FieldCount, NotPermitted, EndsInSession, Start, MissingLine, CellsTooShort}
 use Rattle.text.proofs.EndedLines.{text_is_its_lines, lines_free, finished_joined}
-use Rattle.text.specs.Lines.{lines, ended}
+use Rattle.text.specs.Lines.{lines}
 use Rattle.text.specs.Wholes.{max_text, finished, whole}
 use Rattle.scripts.proofs.ScriptFaults.{FaultFrom, fault_lines}
-use Rattle.scripts.proofs.ScriptLines.{line_of, lines_of_script, script_of_lines, taken_lines, accepted_lines, Accepted}
+use Rattle.scripts.proofs.ScriptLines.{content_of, lines_of_script, script_of_lines, taken_lines, accepted_lines, Accepted}
 use Rattle.scripts.specs.Judgements.{records_from, script, count_of}
 use Rattle.scripts.specs.Laws.{Reads, IsScript, IsWhole, FaultyLine, TextFault}
 use Rattle.scripts.specs.Records.{script_of}
 use Rattle.scripts.specs.declared.record.Record.{Record}
 use Rattle.scripts.specs.declared.state.State.TheVariants.{Rest}
-
--- a whole text is its lines
-whole_text : (bs : List ℕ) → finished bs ≡ true → bs ≡ flat_map ended (lines bs)
-whole_text bs e = text_is_its_lines bs e
 
 went_on_to : (n : ℕ) (bs : List ℕ) (rs : List Record) → script n bs ≡ Ok rs → (whole n bs ≡ Ok tt) × (records_from Rest n (lines bs) ≡ Ok rs)
 went_on_to n bs rs e = let p = went_on (whole n bs) (λ _. records_from Rest n (lines bs)) rs e in (p.1, p.2)
@@ -29,13 +25,13 @@ accepted n bs rs e =
     let good = whole_accepted n bs p.0 in
     let a : Accepted Rest (lines bs) rs = accepted_lines Rest n (lines bs) rs p.1 in
     record {
-      reads = record { leads = a.leads; writable = a.writable; text = whole_text bs good.1 ∙ a.text };
+      reads = record { leads = a.leads; writable = a.writable; text = text_is_its_lines bs good.1 ∙ a.text };
       short = good.0;
     }
 
 taken_text : (n : ℕ) (rs : List Record) → IsScript rs (script_of rs) → script n (script_of rs) ≡ Ok rs
 taken_text n rs is =
-    let ends : finished (script_of rs) ≡ true = ap finished (script_of_lines rs) ∙ finished_joined (map line_of rs) in
+    let ends : finished (script_of rs) ≡ true = ap finished (script_of_lines rs) ∙ finished_joined (map content_of rs) in
     rw (whole_passes n (script_of rs) is.short ends, lines_of_script rs is.reads.writable) (taken_lines Rest n rs is.reads.leads is.reads.writable)
 
 pub taken : (n : ℕ) (bs : List ℕ) (rs : List Record) → IsScript rs bs → script n bs ≡ Ok rs
@@ -64,14 +60,14 @@ fault_of_lines n bs e w (inl f) =
       front = script_of f.records;
       line = f.line;
       below = f.below;
-      text = whole_text bs w.1 ∙ f.text;
+      text = text_is_its_lines bs w.1 ∙ f.text;
       reads = record { leads = f.leads; writable = f.writable; text = refl };
       one_line = f.one_line;
       fault = f.fault;
     })
 fault_of_lines n bs e w (inr o) =
     let i : ℕ = n + length o.records in
-    subst (TextFault n bs) (sym o.fault) (w, (o.records, record { leads = o.leads; writable = o.writable; text = whole_text bs w.1 ∙ o.text }, refl))
+    subst (TextFault n bs) (sym o.fault) (w, (o.records, record { leads = o.leads; writable = o.writable; text = text_is_its_lines bs w.1 ∙ o.text }, refl))
 
 -- the whole text is wrong, or its lines are
 fault_of_whole : (n : ℕ) (bs : List ℕ) (e : RecordFault) → whole n bs ≡ Err e → TextFault n bs e

@@ -1,7 +1,7 @@
 -- The lines of a script: written records are read as themselves, and what is accepted was written. Assumes nothing.
 use Rattle.std.proofs.Common.{◌≡◌, ℕ, ◌+◌, List, [], ◌∷◌, ◌++◌, map, flat_map, Ok, Err, Result, refl, ◌∙◌, ap, sym, subst}
 use Rattle.std.specs.List.{AllByRecursion}
-use Rattle.faults.specs.Results.{◌>>=◌}
+use Rattle.faults.proofs.Joined.{went_on}
 use Rattle.faults.specs.declared.record.RecordFault.{RecordFault}
 use Rattle.text.proofs.Cuts.{Free}
 use Rattle.text.proofs.EndedLines.{lines_of_joined, fields_of_parted, ended_by_fields}
@@ -9,7 +9,7 @@ use Rattle.text.proofs.FreeNumbers.{decimal_free, signed_free}
 use Rattle.text.proofs.LineFields.{no_tab, tabless, parted_free}
 use Rattle.text.specs.Lines.{is_newline, is_separator, lines, ended, parted, fields}
 use Rattle.scripts.proofs.Judged.{judged_written, judged_ok, IsRecord}
-use Rattle.scripts.specs.Judgements.{judged, at_end, records_from, in_front}
+use Rattle.scripts.specs.Judgements.{judged, end_of_text, records_from, in_front}
 use Rattle.scripts.specs.Records.{kind_of, fields_of, arguments_of, written, script_of, Writable}
 use Rattle.scripts.specs.States.{after, Leads}
 use Rattle.scripts.specs.Words.{spelling}
@@ -39,25 +39,25 @@ arguments_free R.Clear w = tt
 arguments_free R.Close w = tt
 
 -- the line of a record
-abbrev pub line_of : Record → List ℕ
-line_of r = parted (fields_of r)
+abbrev pub content_of : Record → List ℕ
+content_of r = parted (fields_of r)
 
-pub fields_of_line : (r : Record) → Writable r → fields (line_of r) ≡ fields_of r
+pub fields_of_line : (r : Record) → Writable r → fields (content_of r) ≡ fields_of r
 fields_of_line r w = fields_of_parted (spelling (kind_of r)) (arguments_of r) (no_tab _ (spelling_free (kind_of r)), tabless (arguments_of r) (arguments_free r w))
 
-lines_are_free : (rs : List Record) → AllByRecursion Writable rs → AllByRecursion (Free is_newline) (map line_of rs)
+lines_are_free : (rs : List Record) → AllByRecursion Writable rs → AllByRecursion (Free is_newline) (map content_of rs)
 lines_are_free [] w = tt
 lines_are_free (r ∷ rs) w = (parted_free (fields_of r) (spelling_free (kind_of r), arguments_free r w.0), lines_are_free rs w.1)
 
-pub script_of_lines : (rs : List Record) → script_of rs ≡ flat_map ended (map line_of rs)
+pub script_of_lines : (rs : List Record) → script_of rs ≡ flat_map ended (map content_of rs)
 script_of_lines [] = refl
 script_of_lines (r ∷ rs) = ap (λ x. written r ++ x) (script_of_lines rs)
 
-pub lines_of_script : (rs : List Record) → AllByRecursion Writable rs → lines (script_of rs) ≡ map line_of rs
-lines_of_script rs w = ap lines (script_of_lines rs) ∙ lines_of_joined (map line_of rs) (lines_are_free rs w)
+pub lines_of_script : (rs : List Record) → AllByRecursion Writable rs → lines (script_of rs) ≡ map content_of rs
+lines_of_script rs w = ap lines (script_of_lines rs) ∙ lines_of_joined (map content_of rs) (lines_are_free rs w)
 
 -- written records are read as themselves
-pub taken_lines : (s : State) (n : ℕ) (rs : List Record) → Leads s rs Rest → AllByRecursion Writable rs → records_from s n (map line_of rs) ≡ Ok rs
+pub taken_lines : (s : State) (n : ℕ) (rs : List Record) → Leads s rs Rest → AllByRecursion Writable rs → records_from s n (map content_of rs) ≡ Ok rs
 taken_lines s n [] leads w = rw leads refl
 taken_lines s n (r ∷ rs) leads w = rw (fields_of_line r w.0, judged_written s n r leads.0 w.0, taken_lines (after s (kind_of r)) (n + 1) rs leads.1 w.1) refl
 
@@ -67,7 +67,7 @@ pub record Accepted (s : State) (ls : List (List ℕ)) (rs : List Record) : Type
   pub writable : AllByRecursion Writable rs
   pub text : flat_map ended ls ≡ script_of rs
 
-accepted_end : (s : State) (n : ℕ) (rs : List Record) → at_end s n ≡ Ok rs → Accepted s [] rs
+accepted_end : (s : State) (n : ℕ) (rs : List Record) → end_of_text s n ≡ Ok rs → Accepted s [] rs
 accepted_end Rest n rs e = let none : [] ≡ rs = cc in subst (Accepted Rest []) none (record { leads = refl; writable = tt; text = refl })
 accepted_end Session n rs e = absurd cc
 
@@ -75,14 +75,10 @@ in_front_ok : (r : Record) (a : Result (List Record) RecordFault) (rs : List Rec
 in_front_ok r (Ok more) rs e = (more, refl, cc)
 in_front_ok r (Err d) rs e = absurd cc
 
-judged_first : (n : ℕ) (s : State) (ls : List (List ℕ)) (a : Result Record RecordFault) (rs : List Record) → (a >>= λ r. in_front r (records_from (after s (kind_of r)) (n + 1) ls)) ≡ Ok rs → (r : Record) × (a ≡ Ok r) × (in_front r (records_from (after s (kind_of r)) (n + 1) ls) ≡ Ok rs)
-judged_first n s ls (Ok r) rs e = (r, refl, e)
-judged_first n s ls (Err d) rs e = absurd cc
-
 pub accepted_lines : (s : State) (n : ℕ) (ls : List (List ℕ)) (rs : List Record) → records_from s n ls ≡ Ok rs → Accepted s ls rs
 accepted_lines s n [] rs e = accepted_end s n rs e
 accepted_lines s n (l ∷ ls) rs e =
-    let first = judged_first n s ls (judged s n (fields l)) rs e in
+    let first = went_on (judged s n (fields l)) (λ r. in_front r (records_from (after s (kind_of r)) (n + 1) ls)) rs e in
     let r : Record = first.0 in
     let is : IsRecord s (fields l) r = judged_ok s n (fields l) r first.1 in
     let rest = in_front_ok r (records_from (after s (kind_of r)) (n + 1) ls) rs first.2 in

@@ -1,8 +1,10 @@
 -- What a script says, line by line.
 --     arity w                               how many fields stand behind the word w
 --     read_as w n args                       the record of the word w with the fields `args` behind it, on line n
---     judged s n fs                         the record that the fields fs are, on line n and in the state s, or its first fault
+--     judged s n fs                         the record that the fields fs are, on line n and in the state s, or the first fault of that line
+--     judged_as m s n args                  the same where m is the word of that first field, if it is one, and `args` are the fields behind it
 --     in_front r a                          a with the record r in front, if a is no fault
+--     end_of_text s n                       no records; a fault if the text ends in session, where line n would be the next
 --     records_from s n ls                   the records of the lines ls, the first being line n, from the state s on, or the first fault
 --     script n bs                          the records of the text bs, the first line being line n, or the first fault
 --     count_of a                           how many records a has, if it is no fault
@@ -49,15 +51,15 @@ abbrev pub judged : State → ℕ → List (List ℕ) → Result Record RecordFa
 judged s n [] = Err (UnknownWord n)
 judged s n (w ∷ args) = judged_as (word_of w) s n args
 
-abbrev pub at_end : State → ℕ → Result (List Record) RecordFault
-at_end Rest n = Ok []
-at_end Session n = Err (EndsInSession n)
+abbrev pub end_of_text : State → ℕ → Result (List Record) RecordFault
+end_of_text Rest n = Ok []
+end_of_text Session n = Err (EndsInSession n)
 
 abbrev pub in_front : Record → Result (List Record) RecordFault → Result (List Record) RecordFault
 in_front r a = a >>= λ rs. Ok (r ∷ rs)
 
 abbrev pub records_from : State → ℕ → List (List ℕ) → Result (List Record) RecordFault
-records_from s n [] = at_end s n
+records_from s n [] = end_of_text s n
 records_from s n (l ∷ ls) = judged s n (fields l) >>= λ r. in_front r (records_from (after s (kind_of r)) (n + 1) ls)
 
 abbrev pub script : ℕ → List ℕ → Result (List Record) RecordFault

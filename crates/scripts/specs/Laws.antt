@@ -1,8 +1,9 @@
 -- Scripts in the words of who writes them, apart from how a text is read.
---     IsScript rs bs          bs is the text of the records rs: they may come one after another, from rest to rest, and bs is short enough
+--     IsScript rs bs          bs is the text of the records rs: they may come one after another, from rest to rest, their numbers have at most
+--                             six digits, and bs is short enough
 --     IsArgument w bs         bs is a number as the word w wants it
 --     Spells w fs             the first of the fields fs is the word w
---     Counted w fs            and there are as many fields as it wants
+--     Counted w fs            that, and there are as many fields as the word wants
 --     LineFault s n fs e      e is what is wrong with a line with the fields fs, which is line n, in the state s: it is so, and none of the
 --                             causes that come before it
 --     TextFault n bs e        e is what is wrong with the text bs, which begins with line n: it is so, and nothing before it is wrong

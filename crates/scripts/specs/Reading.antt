@@ -10,7 +10,7 @@ use Rattle.faults.specs.declared.record.RecordFault.{RecordFault}
 use Rattle.text.specs.Lines.{below_first, lines, fields}
 use Rattle.text.specs.Readers.{text_of, line_of, rest_of}
 use Rattle.text.specs.declared.reader.Reader.{Reader}
-use Rattle.scripts.specs.Judgements.{at_end, judged, records_from, in_front}
+use Rattle.scripts.specs.Judgements.{end_of_text, judged, records_from, in_front}
 use Rattle.scripts.specs.Records.{kind_of}
 use Rattle.scripts.specs.States.{after}
 use Rattle.scripts.specs.declared.record.Record.{Record}
@@ -36,7 +36,7 @@ pub record GoneOn (r : Records) (x : Record) (s : Records) : Type 0 where
 
 -- the next record, or the first fault of the line; none at the end, if the state is rest
 abbrev pub next_from : State → ℕ → List (List ℕ) → Result (Option Record) RecordFault
-next_from s n [] = at_end s n >>= λ _. Ok None
+next_from s n [] = end_of_text s n >>= λ _. Ok None
 next_from s n (l ∷ ls) = judged s n (fields l) >>= λ x. Ok (Some x)
 
 abbrev pub next_of : Records → Result (Option Record) RecordFault

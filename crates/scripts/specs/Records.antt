@@ -1,5 +1,6 @@
 -- Records, and how they are written.
 --     kind_of r            the word that r begins with
+--     arguments_of r       its numbers, each as it is written
 --     fields_of r          the fields of its line
 --     written r            its line, with the newline
 --     script_of rs         the text of these records

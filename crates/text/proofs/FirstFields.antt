@@ -4,9 +4,9 @@ use Rattle.std.proofs.lemmas.List.{take-append-drop, length-take-le, drop-drop, 
 use Rattle.std.proofs.lemmas.List.Sums.{prefix_len-le-length}
 use Rattle.std.specs.List.{position_or_len, before_first}
 use Rattle.text.proofs.Cuts.{Free, free_before}
-use Rattle.text.proofs.LineFields.{inner, last, unfinished}
-use Rattle.text.specs.Fields.{bytes_of, ends_line_of, FirstOf}
-use Rattle.text.specs.Lines.{is_separator, first_line, below_first, fields}
+use Rattle.text.proofs.LineFields.{field_and_tab, field_and_newline, field_and_end, line_to_newline, line_to_end, end_over_tab}
+use Rattle.text.specs.Fields.{bytes_of, ends_line_of, EndsAt, FirstOf}
+use Rattle.text.specs.Lines.{is_separator, first_line, below_first, line_end, fields}
 use Rattle.text.specs.Readers.{Gives, rest_of, text_of, position_of, line_of, fields_read_of}
 use Rattle.text.specs.declared.field.Field.{Field}
 use Rattle.text.specs.declared.field.Field.TheVariants.{Inner, Last, Unfinished}
@@ -36,23 +36,28 @@ cut_at xs f rest c e ends behind =
 rest_moved : (r s : Reader) (n : ℕ) → text_of s ≡ text_of r → position_of s ≡ position_of r + n → rest_of s ≡ drop n (rest_of r)
 rest_moved r s n t p = ap (λ x. drop (position_of s) x) t ∙ ap (λ k. drop k (text_of r)) p ∙ sym (drop-drop n (position_of r) (text_of r))
 
+-- what a reader has left, by what ends the field that it gives
+rest_cut : (r : Reader) (f : Field) (s : Reader) → Gives r f s → (c : ℕ) → slice_get (drop (length (bytes_of f)) (rest_of r)) 0 ≡ Some c → position_of s ≡ position_of r + length (bytes_of f) + 1 → rest_of r ≡ bytes_of f ++ (c ∷ rest_of s)
+rest_cut r f s g c ends moves = cut_at (rest_of r) (bytes_of f) (rest_of s) c g.bytes ends (rest_moved r s (length (bytes_of f) + 1) g.text (omega (arith, moves)))
+
+rest_is : (r : Reader) (f : Field) (s : Reader) → Gives r f s → drop (length (bytes_of f)) (rest_of r) ≡ [] → rest_of r ≡ bytes_of f
+rest_is r f s g ends = cut (rest_of r) (bytes_of f) g.bytes ∙ ap (λ x. bytes_of f ++ x) ends ∙ append-nil (bytes_of f)
+
 pub first_field : (r : Reader) (f : Field) (s : Reader) → Gives r f s → FirstOf f (rest_of r) (rest_of s)
 first_field r (Inner b p) s g =
-    let moved : rest_of s ≡ drop (length b.now + 1) (rest_of r) = rest_moved r s (length b.now + 1) g.text (omega (arith, g.moves.0)) in
-    rw (cut_at (rest_of r) b.now (rest_of s) 9 g.bytes g.ends moved) (inner b.now (rest_of s) (free_field (rest_of r) b.now g.bytes))
+    rw (rest_cut r (Inner b p) s g 9 g.ends g.moves.0) (field_and_tab b.now (rest_of s) (free_field (rest_of r) b.now g.bytes))
 first_field r (Last b p) s g =
-    let moved : rest_of s ≡ drop (length b.now + 1) (rest_of r) = rest_moved r s (length b.now + 1) g.text (omega (arith, g.moves.0)) in
-    rw (cut_at (rest_of r) b.now (rest_of s) 10 g.bytes g.ends moved) (last b.now (rest_of s) (free_field (rest_of r) b.now g.bytes))
+    rw (rest_cut r (Last b p) s g 10 g.ends g.moves.0) (field_and_newline b.now (rest_of s) (free_field (rest_of r) b.now g.bytes))
 first_field r (Unfinished b p) s g =
     let moved : rest_of s ≡ drop (length b.now) (rest_of r) = rest_moved r s (length b.now) g.text g.moves.0 in
-    let all : rest_of r ≡ b.now = cut (rest_of r) b.now g.bytes ∙ ap (λ x. b.now ++ x) g.ends ∙ append-nil b.now in
-    let line = unfinished b.now (free_field (rest_of r) b.now g.bytes) in
-    rw all (line.0, line.1 ∙ sym (moved ∙ g.ends))
+    let line = field_and_end b.now (free_field (rest_of r) b.now g.bytes) in
+    rw (rest_is r (Unfinished b p) s g g.ends) (line.0, line.1 ∙ sym (moved ∙ g.ends))
 
 -- reading a field f leads r to s, on the same line
 pub record GoesOn (r : Reader) (f : Field) (s : Reader) : Type 0 where
   pub fields : fields (first_line (rest_of r)) ≡ bytes_of f ∷ fields (first_line (rest_of s))
   pub below : below_first (rest_of s) ≡ below_first (rest_of r)
+  pub end : line_end (rest_of s) ≡ line_end (rest_of r)
   pub text : text_of s ≡ text_of r
   pub line : line_of s ≡ line_of r
   pub fields_read : fields_read_of s ≡ fields_read_of r + 1
@@ -62,16 +67,31 @@ pub record GoesOn (r : Reader) (f : Field) (s : Reader) : Type 0 where
 pub record EndsLine (r : Reader) (f : Field) (s : Reader) : Type 0 where
   pub fields : fields (first_line (rest_of r)) ≡ bytes_of f ∷ []
   pub below : rest_of s ≡ below_first (rest_of r)
+  pub end : EndsAt f (line_end (rest_of r))
   pub text : text_of s ≡ text_of r
   pub line : line_of s ≡ line_of r + 1
   pub fields_read : fields_read_of s ≡ 0
 
-pub goes_on : (r : Reader) (f : Field) (s : Reader) → Gives r f s → FirstOf f (rest_of r) (rest_of s) → ends_line_of f ≡ false → GoesOn r f s
-goes_on r (Inner b p) s g first e = record { fields = first.0; below = sym first.1; text = g.text; line = g.moves.1; fields_read = g.moves.2; further = omega (arith, g.moves.0) }
-goes_on r (Last b p) s g first e = absurd cc
-goes_on r (Unfinished b p) s g first e = absurd cc
+end_stays : (r : Reader) (f : Field) (s : Reader) → Gives r f s → ends_line_of f ≡ false → line_end (rest_of s) ≡ line_end (rest_of r)
+end_stays r (Inner b p) s g e = sym (ap line_end (rest_cut r (Inner b p) s g 9 g.ends g.moves.0) ∙ end_over_tab b.now (rest_of s) (free_field (rest_of r) b.now g.bytes))
+end_stays r (Last b p) s g e = absurd cc
+end_stays r (Unfinished b p) s g e = absurd cc
 
-pub ends_line : (r : Reader) (f : Field) (s : Reader) → Gives r f s → FirstOf f (rest_of r) (rest_of s) → ends_line_of f ≡ true → EndsLine r f s
-ends_line r (Inner b p) s g first e = absurd cc
-ends_line r (Last b p) s g first e = record { fields = first.0; below = sym first.1; text = g.text; line = g.moves.1; fields_read = g.moves.2 }
-ends_line r (Unfinished b p) s g first e = record { fields = first.0; below = sym first.1; text = g.text; line = g.moves.1; fields_read = g.moves.2 }
+end_here : (r : Reader) (f : Field) (s : Reader) → Gives r f s → ends_line_of f ≡ true → EndsAt f (line_end (rest_of r))
+end_here r (Inner b p) s g e = absurd cc
+end_here r (Last b p) s g e =
+    let line : first_line (rest_of r) ≡ b.now = ap first_line (rest_cut r (Last b p) s g 10 g.ends g.moves.0) ∙ line_to_newline b.now (rest_of s) (free_field (rest_of r) b.now g.bytes) in
+    ap (λ l. slice_get (drop (length l) (rest_of r)) 0) line ∙ g.ends
+end_here r (Unfinished b p) s g e =
+    let line : first_line (rest_of r) ≡ b.now = ap first_line (rest_is r (Unfinished b p) s g g.ends) ∙ line_to_end b.now (free_field (rest_of r) b.now g.bytes) in
+    ap (λ l. drop (length l) (rest_of r)) line ∙ g.ends
+
+pub stays_on_line : (r : Reader) (f : Field) (s : Reader) → Gives r f s → FirstOf f (rest_of r) (rest_of s) → ends_line_of f ≡ false → GoesOn r f s
+stays_on_line r (Inner b p) s g first e = record { fields = first.0; below = sym first.1; end = end_stays r (Inner b p) s g e; text = g.text; line = g.moves.1; fields_read = g.moves.2; further = omega (arith, g.moves.0) }
+stays_on_line r (Last b p) s g first e = absurd cc
+stays_on_line r (Unfinished b p) s g first e = absurd cc
+
+pub leaves_line : (r : Reader) (f : Field) (s : Reader) → Gives r f s → FirstOf f (rest_of r) (rest_of s) → ends_line_of f ≡ true → EndsLine r f s
+leaves_line r (Inner b p) s g first e = absurd cc
+leaves_line r (Last b p) s g first e = record { fields = first.0; below = sym first.1; end = end_here r (Last b p) s g e; text = g.text; line = g.moves.1; fields_read = g.moves.2 }
+leaves_line r (Unfinished b p) s g first e = record { fields = first.0; below = sym first.1; end = end_here r (Unfinished b p) s g e; text = g.text; line = g.moves.1; fields_read = g.moves.2 }

@@ -1,10 +1,10 @@
 -- The fields that are left on a line, one after another. Assumes nothing.
-use Rattle.std.proofs.Common.{◌≡◌, ◌≢◌, ℕ, ◌<◌, List, [], ◌∷◌, ◌++◌, length, arith, refl, ◌∙◌, ap}
+use Rattle.std.proofs.Common.{◌≡◌, ◌≢◌, ℕ, ◌<◌, List, [], ◌∷◌, ◌++◌, length, drop, arith, refl, ◌∙◌, ap}
 use Rattle.std.proofs.lemmas.List.{append-nil}
 use Rattle.std.proofs.lemmas.List.Splits.{length-slice_split}
 use Rattle.std.specs.List.{AllByRecursion}
 use Rattle.text.proofs.Cuts.{Free, before_front, after_front, before_yes, after_yes, before_no, after_no, split_free, split_front}
-use Rattle.text.specs.Lines.{is_tab, is_newline, is_separator, first_line, below_first, fields, parted}
+use Rattle.text.specs.Lines.{is_tab, is_newline, is_separator, first_line, below_first, line_end, fields, parted}
 
 -- bytes with no separator among them have neither tab nor newline
 pub no_tab : (bs : List ℕ) → Free is_separator bs → Free is_tab bs
@@ -15,28 +15,44 @@ pub no_newline : (bs : List ℕ) → Free is_separator bs → Free is_newline bs
 no_newline [] free = tt
 no_newline (b ∷ bs) free = (grind (arith, free.0), no_newline bs free.1)
 
+-- the line that a field begins, by what ends the field
+pub line_over_tab : (f more : List ℕ) → Free is_separator f → first_line (f ++ (9 ∷ more)) ≡ f ++ (9 ∷ first_line more)
+line_over_tab f more free = before_front is_newline f (9 ∷ more) (no_newline f free) ∙ ap (λ r. f ++ r) (before_no is_newline 9 more refl)
+
+pub line_to_newline : (f more : List ℕ) → Free is_separator f → first_line (f ++ (10 ∷ more)) ≡ f
+line_to_newline f more free = before_front is_newline f (10 ∷ more) (no_newline f free) ∙ ap (λ r. f ++ r) (before_yes is_newline 10 more refl) ∙ append-nil f
+
+pub line_to_end : (f : List ℕ) → Free is_separator f → first_line f ≡ f
+line_to_end f free =
+    let line : first_line (f ++ []) ≡ f = before_front is_newline f [] (no_newline f free) ∙ append-nil f in
+    rw append-nil at line
+
+behind_front : (f xs ys : List ℕ) (b : ℕ) → drop (length (f ++ (b ∷ xs))) (f ++ (b ∷ ys)) ≡ drop (length xs) ys
+behind_front [] xs ys b = refl
+behind_front (x ∷ f) xs ys b = behind_front f xs ys b
+
+-- a tab leaves the end of its line where it was
+pub end_over_tab : (f more : List ℕ) → Free is_separator f → line_end (f ++ (9 ∷ more)) ≡ line_end more
+end_over_tab f more free = ap (λ l. drop (length l) (f ++ (9 ∷ more))) (line_over_tab f more free) ∙ behind_front f (first_line more) more 9
+
 -- a field, a tab, and more
-pub inner : (f more : List ℕ) → Free is_separator f → (fields (first_line (f ++ (9 ∷ more))) ≡ f ∷ fields (first_line more)) × (below_first (f ++ (9 ∷ more)) ≡ below_first more)
-inner f more free =
-    let line : first_line (f ++ (9 ∷ more)) ≡ f ++ (9 ∷ first_line more) = before_front is_newline f (9 ∷ more) (no_newline f free) ∙ ap (λ r. f ++ r) (before_no is_newline 9 more refl) in
+pub field_and_tab : (f more : List ℕ) → Free is_separator f → (fields (first_line (f ++ (9 ∷ more))) ≡ f ∷ fields (first_line more)) × (below_first (f ++ (9 ∷ more)) ≡ below_first more)
+field_and_tab f more free =
     let below : below_first (f ++ (9 ∷ more)) ≡ below_first more = after_front is_newline f (9 ∷ more) (no_newline f free) ∙ after_no is_newline 9 more refl in
-    (ap fields line ∙ split_front is_tab f 9 (first_line more) (no_tab f free) refl, below)
+    (ap fields (line_over_tab f more free) ∙ split_front is_tab f 9 (first_line more) (no_tab f free) refl, below)
 
 -- a field, a newline, and more
-pub last : (f more : List ℕ) → Free is_separator f → (fields (first_line (f ++ (10 ∷ more))) ≡ f ∷ []) × (below_first (f ++ (10 ∷ more)) ≡ more)
-last f more free =
-    let line : first_line (f ++ (10 ∷ more)) ≡ f = before_front is_newline f (10 ∷ more) (no_newline f free) ∙ ap (λ r. f ++ r) (before_yes is_newline 10 more refl) ∙ append-nil f in
+pub field_and_newline : (f more : List ℕ) → Free is_separator f → (fields (first_line (f ++ (10 ∷ more))) ≡ f ∷ []) × (below_first (f ++ (10 ∷ more)) ≡ more)
+field_and_newline f more free =
     let below : below_first (f ++ (10 ∷ more)) ≡ more = after_front is_newline f (10 ∷ more) (no_newline f free) ∙ after_yes is_newline 10 more refl in
-    (ap fields line ∙ split_free is_tab f (no_tab f free), below)
+    (ap fields (line_to_newline f more free) ∙ split_free is_tab f (no_tab f free), below)
 
 -- a field at the end of a text
-pub unfinished : (f : List ℕ) → Free is_separator f → (fields (first_line f) ≡ f ∷ []) × (below_first f ≡ [])
-unfinished f free =
-    let line : first_line (f ++ []) ≡ f = before_front is_newline f [] (no_newline f free) ∙ append-nil f in
-    let line' : first_line f ≡ f = rw append-nil at line in
+pub field_and_end : (f : List ℕ) → Free is_separator f → (fields (first_line f) ≡ f ∷ []) × (below_first f ≡ [])
+field_and_end f free =
     let below : below_first (f ++ []) ≡ [] = after_front is_newline f [] (no_newline f free) in
     let below' : below_first f ≡ [] = rw append-nil at below in
-    (ap fields line' ∙ split_free is_tab f (no_tab f free), below')
+    (ap fields (line_to_end f free) ∙ split_free is_tab f (no_tab f free), below')
 
 pub some_field : (l : List ℕ) → 0 < length (fields l)
 some_field l = omega (arith, length-slice_split is_tab l)

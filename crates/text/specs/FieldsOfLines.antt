@@ -1,23 +1,26 @@
 -- A line as a reader gives it.
---     word_of l              the first field of the line l
+--     word_field l              the first field of the line l
 --     Stands f n k           the field f is number k on line n
 --     StandsFrom l n k       the fields of l that are kept stand on line n, from number k on
 --     HasFields l fs         fs are the fields of l
+--     IsInner f              another field follows on the line of f
+--     LineEndsAt l bs        of the fields of l that are kept, all but the last on the line are followed by others, and what ends
+--                            that last one is what bs, the bytes behind the line, begins with
 --     GivesLine r l s        r has the line l left, and is then s: at the beginning of the next line
-use Rattle.std.specs.Prelude.{◌≡◌, ◌≢◌, ℕ, ◌+◌, List, [], ◌∷◌, length}
-use Rattle.text.specs.Fields.{bytes_of, place_of}
-use Rattle.text.specs.Lines.{first_line, below_first, fields}
+use Rattle.std.specs.Prelude.{◌≡◌, ◌≢◌, ℕ, ◌+◌, false, List, [], ◌∷◌, length}
+use Rattle.text.specs.Fields.{bytes_of, place_of, ends_line_of, EndsAt}
+use Rattle.text.specs.Lines.{first_line, below_first, line_end, fields}
 use Rattle.text.specs.Readers.{text_of, rest_of, line_of, fields_read_of}
 use Rattle.text.specs.declared.field.Field.{Field}
 use Rattle.text.specs.declared.line.Line.{Line}
 use Rattle.text.specs.declared.line.Line.TheVariants.{One, Two, Four, Other}
 use Rattle.text.specs.declared.reader.Reader.{Reader}
 
-abbrev pub word_of : Line → Field
-word_of (One a) = a
-word_of (Two a b) = a
-word_of (Four a b c d) = a
-word_of (Other a) = a
+abbrev pub word_field : Line → Field
+word_field (One a) = a
+word_field (Two a b) = a
+word_field (Four a b c d) = a
+word_field (Other a) = a
 
 abbrev pub Stands : Field → ℕ → ℕ → Type 0
 Stands f n k = ((place_of f).line ≡ n) × ((place_of f).field ≡ k)
@@ -34,9 +37,19 @@ HasFields (Two a b) fs = fs ≡ bytes_of a ∷ bytes_of b ∷ []
 HasFields (Four a b c d) fs = fs ≡ bytes_of a ∷ bytes_of b ∷ bytes_of c ∷ bytes_of d ∷ []
 HasFields (Other a) fs = ((more : List (List ℕ)) × (fs ≡ bytes_of a ∷ more)) × (length fs ≢ 1) × (length fs ≢ 2) × (length fs ≢ 4)
 
+abbrev pub IsInner : Field → Type 0
+IsInner f = ends_line_of f ≡ false
+
+abbrev pub LineEndsAt : Line → List ℕ → Type 0
+LineEndsAt (One a) bs = EndsAt a bs
+LineEndsAt (Two a b) bs = IsInner a × EndsAt b bs
+LineEndsAt (Four a b c d) bs = IsInner a × IsInner b × IsInner c × EndsAt d bs
+LineEndsAt (Other a) bs = IsInner a
+
 pub record GivesLine (r : Reader) (l : Line) (s : Reader) : Type 0 where
   pub fields : HasFields l (fields (first_line (rest_of r)))
   pub stands : StandsFrom l (line_of r) (fields_read_of r + 1)
+  pub ends : LineEndsAt l (line_end (rest_of r))
   pub text : text_of s ≡ text_of r
   pub rest : rest_of s ≡ below_first (rest_of r)
   pub line : line_of s ≡ line_of r + 1

@@ -3,11 +3,12 @@
 --     is_separator b             b ends a field: it is one of the two
 --     first_line bs              the bytes of bs before its first newline, or all where there is none
 --     below_first bs             what stands behind that newline
+--     line_end bs                what stands behind its first line: the newline and all below, or nothing
 --     lines bs                   all lines of bs. What stands behind the last newline is a line, too, where it is not empty
 --     ended l                    the line l and its newline
 --     parted fs                  the fields fs with a tab between each two of them
 --     fields l                   the fields of the line l. There is always one, and one more for each tab
-use Rattle.std.specs.Prelude.{ℕ, ◌==◌, ◌||◌, Bool, List, [], ◌∷◌, ◌++◌, if◌then◌else◌, length}
+use Rattle.std.specs.Prelude.{ℕ, ◌==◌, ◌||◌, Bool, List, [], ◌∷◌, ◌++◌, if◌then◌else◌, length, drop}
 use Rattle.std.specs.List.{slice_split, before_first, after_first, join_with_byte}
 
 abbrev pub is_tab : ℕ → Bool
@@ -24,6 +25,9 @@ first_line bs = before_first is_newline bs
 
 abbrev pub below_first : List ℕ → List ℕ
 below_first bs = after_first is_newline bs
+
+abbrev pub line_end : List ℕ → List ℕ
+line_end bs = drop (length (first_line bs)) bs
 
 -- the pieces between newlines, less an empty last one
 abbrev pub lines_of_pieces : List (List ℕ) → List (List ℕ)

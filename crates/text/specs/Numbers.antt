@@ -1,6 +1,5 @@
 -- Numbers as they are written in a text.
 --     max_digits, max_number      a number has at most so many digits, and is at most so large
---     is_digit b                  b is the byte of a decimal digit
 --     is_number bs                bs is one to six decimal digits, and begins with 0 only if it is `0`
 --     number_of bs                the number that bs is, if it is one
 --     signed_of bs                the same, where a minus may stand in front, but not in front of `0`

@@ -1,5 +1,5 @@
 // A field of a line.
-ghost use Rattle.std.specs.Prelude.{◌≡◌, ◌≤◌, ℕ, ℤ, IfOk, Ok};
+ghost use Rattle.std.specs.Prelude.{◌≡◌, ℕ, ℤ, IfOk, Ok};
 ghost use Rattle.std.specs.Option.{ok_or};
 ghost use Rattle.text.specs.Fields.{bytes_of, place_of, ends_line_of};
 ghost use Rattle.text.specs.Numbers.{number_of, signed_of, WritesNumber, WritesSigned};

@@ -14,11 +14,11 @@ pub enum Line<'t> {
 
 impl<'t> Line<'t> {
     ghost use Rattle.std.specs.Prelude.{◌≡◌};
-    ghost use Rattle.text.specs.FieldsOfLines.{word_of};
+    ghost use Rattle.text.specs.FieldsOfLines.{word_field};
 
     // The first field.
     pub fn word(&self) -> Field<'t>
-        ensures { result ≡ word_of self.now }
+        ensures { result ≡ word_field self.now }
     {
         match *self {
             Line::One(word) | Line::Two(word, _) | Line::Four(word, _, _, _) | Line::Other(word) =>
@@ -34,7 +34,7 @@ impl<'t> Reader<'t> {
     ghost use Rattle.text.specs.Readers.{AtEnd, text_of, rest_of, line_of, fields_read_of};
 
     // Goes to the beginning of the next line, from behind a tab.
-    #[tactic(auto, using(crate::proofs::FirstFields::goes_on, crate::proofs::FirstFields::ends_line, crate::proofs::LineFields::some_field))]
+    #[tactic(auto, using(crate::proofs::FirstFields::stays_on_line, crate::proofs::FirstFields::leaves_line, crate::proofs::LineFields::some_field))]
     fn skip_line(&mut self)
         requires { 0 < fields_read_of self.old }
         ensures text { text_of self.new ≡ text_of self.old }
@@ -51,7 +51,7 @@ impl<'t> Reader<'t> {
     }
 
     // What is left of this line, or the next line as a whole.
-    #[tactic(auto, using(crate::proofs::FirstFields::goes_on, crate::proofs::FirstFields::ends_line, crate::proofs::LineFields::longer))]
+    #[tactic(auto, using(crate::proofs::FirstFields::stays_on_line, crate::proofs::FirstFields::leaves_line, crate::proofs::LineFields::longer))]
     pub fn next_line(&mut self) -> Option<Line<'t>>
         ensures given { IfSome result (λ l. GivesLine self.old l self.new) }
         ensures end { IsNone result ↔ AtEnd self.old }

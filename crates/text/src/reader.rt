@@ -16,7 +16,7 @@ pub struct Reader<'t> {
     // how many fields of that line were read
     fields_read: usize,
     ghost within: { position ≤ length text.now },
-    ghost few: { line + fields_read < position + 2 ^ 32 },
+    ghost countable: { line + fields_read < position + 2 ^ 32 },
 }
 
 // How many bytes stand before the first tab or newline, or in all where there is none.
@@ -34,7 +34,7 @@ fn field_len(bytes: &[u8]) -> usize
 }
 
 impl<'t> Reader<'t> {
-    ghost use Rattle.std.specs.Prelude.{IfNone, IfSome, IsNone, ◌↔◌, []};
+    ghost use Rattle.std.specs.Prelude.{IfNone, IfSome, IsNone, ◌↔◌};
     ghost use Rattle.text.specs.Fields.{FirstOf};
     ghost use Rattle.text.specs.Readers.{text_of, position_of, line_of, fields_read_of, rest_of, AtEnd, Gives};
 

@@ -40,11 +40,8 @@ fn fault(
     room: usize,
 ) -> Option<(u8, u8, usize, usize)> {
     let mut memory = [5; 9];
-    let answer = if room <= 9 {
-        read_board(text, first_line, &mut memory[..room])
-    } else {
-        read_board(text, first_line, &mut memory)
-    };
+    let lent = memory.get_mut(..room)?;
+    let answer = read_board(text, first_line, lent);
     assert_eq!(rt; memory, [5; 9]);
     let report = Report::from(answer.err()?);
     Some((report.layer, report.number, report.line, report.field))

@@ -16,12 +16,7 @@ fn next_is(
     let field = reader.next_field().ok_or("there is no field")?;
     assert!(rt; *field.bytes() == *bytes);
     assert_eq!(rt; (field.place().line, field.place().field), place);
-    let ended = match field {
-        Field::Inner { .. } => "tab",
-        Field::Last { .. } => "newline",
-        Field::Unfinished { .. } => "end",
-    };
-    assert_eq!(rt; ended, end);
+    assert_eq!(rt; end_of(field), end);
     Ok(())
 }
 
@@ -63,6 +58,15 @@ fn other_bytes_are_ordinary(rt: HostRuntime) -> Result<(), Fail> {
     Ok(())
 }
 
+// What ends a field.
+fn end_of(field: Field<'_>) -> &'static str {
+    match field {
+        Field::Inner { .. } => "tab",
+        Field::Last { .. } => "newline",
+        Field::Unfinished { .. } => "end",
+    }
+}
+
 // How many fields a line has: 0 stands for another number than 1, 2 and 4.
 fn kind(line: Line<'_>) -> usize {
     match line {
@@ -94,6 +98,30 @@ fn lines_by_the_number_of_their_fields(rt: HostRuntime) -> Result<(), Fail> {
 }
 
 #[test]
+fn what_ends_the_fields_of_a_line(rt: HostRuntime) -> Result<(), Fail> {
+    let mut reader = Reader::new(b"a\tb\nc\td\te\tf\ng\nh\ti\tj\nk\t", 1);
+    let ends: [(&str, &str); 5] = [
+        ("tab", "newline"),
+        ("tab", "newline"),
+        ("newline", "newline"),
+        ("tab", "tab"),
+        ("tab", "end"),
+    ];
+    for (first, last) in ends {
+        let line = reader.next_line().ok_or("there is no line")?;
+        assert_eq!(rt; end_of(line.word()), first);
+        let kept = match line {
+            Line::One(field)
+            | Line::Two(_, field)
+            | Line::Four(_, _, _, field)
+            | Line::Other(field) => field,
+        };
+        assert_eq!(rt; end_of(kept), last);
+    }
+    Ok(())
+}
+
+#[test]
 fn numbers_of_fields(rt: HostRuntime) -> Result<(), Fail> {
     let cases: [(&[u8], Option<u32>, Option<i32>); 14] = [
         (b"0", Some(0), Some(0)),
@@ -104,7 +132,7 @@ fn numbers_of_fields(rt: HostRuntime) -> Result<(), Fail> {
         (b"-999999", None, Some(-999_999)),
         (b"-0", None, None),
         (b"-", None, None),
-        (b"", None, None),
+        (b"\t", None, None),
         (b"00", None, None),
         (b"-07", None, None),
         (b"1000000", None, None),
@@ -113,13 +141,9 @@ fn numbers_of_fields(rt: HostRuntime) -> Result<(), Fail> {
     ];
     for (bytes, number, signed) in cases {
         let mut reader = Reader::new(bytes, 1);
-        match reader.next_field() {
-            Some(field) => {
-                assert_eq!(rt; field.number().ok(), number);
-                assert_eq!(rt; field.signed().ok(), signed);
-            }
-            None => assert!(rt; bytes.is_empty()),
-        }
+        let field = reader.next_field().ok_or("there is no field")?;
+        assert_eq!(rt; field.number().ok(), number);
+        assert_eq!(rt; field.signed().ok(), signed);
     }
     Ok(())
 }

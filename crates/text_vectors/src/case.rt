@@ -2,10 +2,16 @@
 use anyhow::{Context, bail};
 use std::alloc::Global;
 
+#[derive(Clone, Copy, PartialEq, Eq)]
+pub(crate) enum Kind {
+    Script,
+    Board,
+}
+
 // A text, what to read it as, the number of its first line, and how many cells the memory has.
 #[derive(Drop)]
 pub(crate) struct Case {
-    pub board: bool,
+    pub kind: Kind,
     pub first_line: u32,
     pub room: usize,
     pub text: Vec<u8>,
@@ -22,16 +28,16 @@ fn bytes_of(alloc: Global, digits: &str) -> anyhow::Result<Vec<u8>> {
 impl Case {
     pub(crate) fn parse(alloc: Global, line: &str) -> anyhow::Result<Case> {
         let mut fields = line.split(' ');
-        let board = match fields.next() {
-            Some("board") => true,
-            Some("script") => false,
+        let kind = match fields.next() {
+            Some("board") => Kind::Board,
+            Some("script") => Kind::Script,
             _ => bail!("neither board nor script"),
         };
         let first_line = fields.next().context("no first line")?.parse()?;
         let room = fields.next().context("no size of a memory")?.parse()?;
         let text = bytes_of(alloc, fields.next().context("no text")?)?;
         Ok(Case {
-            board,
+            kind,
             first_line,
             room,
             text,

@@ -1,5 +1,5 @@
 // What is printed of one text.
-use crate::case::Case;
+use crate::case::{Case, Kind};
 use boards::read::read_board;
 use boards::write::write_board;
 use faults::record::RecordFault;
@@ -31,7 +31,7 @@ fn show_script(rt: &HostRuntime, case: &Case) -> anyhow::Result<()> {
 }
 
 // The memory before it is read into.
-fn sown(rt: &HostRuntime, room: usize) -> anyhow::Result<Vec<u8>> {
+fn memory_before(rt: &HostRuntime, room: usize) -> anyhow::Result<Vec<u8>> {
     let mut cells = Vec::new(rt.alloc());
     let mut next = 0u8;
     for _ in 0..room {
@@ -56,7 +56,7 @@ fn written_back(
 }
 
 fn show_board(rt: &HostRuntime, case: &Case) -> anyhow::Result<()> {
-    let mut cells = sown(rt, case.room)?;
+    let mut cells = memory_before(rt, case.room)?;
     let answer = read_board(&case.text, case.first_line, &mut cells);
     let sum = digest(&cells);
     match answer {
@@ -75,9 +75,8 @@ fn show_board(rt: &HostRuntime, case: &Case) -> anyhow::Result<()> {
 }
 
 pub(crate) fn show(rt: &HostRuntime, case: &Case) -> anyhow::Result<()> {
-    if case.board {
-        show_board(rt, case)
-    } else {
-        show_script(rt, case)
+    match case.kind {
+        Kind::Script => show_script(rt, case),
+        Kind::Board => show_board(rt, case),
     }
 }

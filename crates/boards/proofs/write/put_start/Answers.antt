@@ -8,14 +8,14 @@ use Rattle.boards.proofs.write.put_start.Goals as goal
 pub returns : goal.returns
 returns c =
     let s = c.args.start.now in
-    let w : c.put_number-width_end.new.memory ≡ put_at c.put-width.new.memory c.put-width.result (decimal (width_of s)) = search rules in
-    let b : c.put_number-width_end.result ≡ c.put-width.result + length (decimal (width_of s)) = search rules in
+    let w : c.put_number-width_end.new.memory ≡ put_at c.put-width_at.new.memory c.put-width_at.result (decimal (width_of s)) = search rules in
+    let b : c.put_number-width_end.result ≡ c.put-width_at.result + length (decimal (width_of s)) = search rules in
     let ws : length (decimal (width_of s)) ≤ 3 = search rules in
-    let h : c.put_number-height_end.new.memory ≡ put_at c.put-height.new.memory c.put-height.result (decimal (height_of s)) = search rules in
-    let d : c.put_number-height_end.result ≡ c.put-height.result + length (decimal (height_of s)) = search rules in
+    let h : c.put_number-height_end.new.memory ≡ put_at c.put-height_at.new.memory c.put-height_at.result (decimal (height_of s)) = search rules in
+    let d : c.put_number-height_end.result ≡ c.put-height_at.result + length (decimal (height_of s)) = search rules in
     let hs : length (decimal (height_of s)) ≤ 3 = search rules in
-    let p : c.put_number-phase_end.new.memory ≡ put_at c.put-phase.new.memory c.put-phase.result (decimal (phase_of s)) = search rules in
-    let f : c.put_number-phase_end.result ≡ c.put-phase.result + length (decimal (phase_of s)) = search rules in
+    let p : c.put_number-phase_end.new.memory ≡ put_at c.put-phase_at.new.memory c.put-phase_at.result (decimal (phase_of s)) = search rules in
+    let f : c.put_number-phase_end.result ≡ c.put-phase_at.result + length (decimal (phase_of s)) = search rules in
     let ps : length (decimal (phase_of s)) ≤ 3 = search rules in
-    let written = start_put c.args.line.now c.put-width.new.memory c.put_number-width_end.new.memory c.put-height.new.memory c.put_number-height_end.new.memory c.put-phase.new.memory c.put_number-phase_end.new.memory c.put.new.memory (width_of s) (height_of s) (phase_of s) c.put-width.result c.put_number-width_end.result c.put-height.result c.put_number-height_end.result c.put-phase.result c.put_number-phase_end.result c.put.result c.requires ws hs ps c.put-width.ensures.memory c.put-width.ensures.behind w b c.put-height.ensures.memory c.put-height.ensures.behind h d c.put-phase.ensures.memory c.put-phase.ensures.behind p f c.put.ensures.memory c.put.ensures.behind in
+    let written = start_put c.args.line.now c.put-width_at.new.memory c.put_number-width_end.new.memory c.put-height_at.new.memory c.put_number-height_end.new.memory c.put-phase_at.new.memory c.put_number-phase_end.new.memory c.put.new.memory (width_of s) (height_of s) (phase_of s) c.put-width_at.result c.put_number-width_end.result c.put-height_at.result c.put_number-height_end.result c.put-phase_at.result c.put_number-phase_end.result c.put.result c.requires ws hs ps c.put-width_at.ensures.memory c.put-width_at.ensures.behind w b c.put-height_at.ensures.memory c.put-height_at.ensures.behind h d c.put-phase_at.ensures.memory c.put-phase_at.ensures.behind p f c.put.ensures.memory c.put.ensures.behind in
     record { memory = written.memory; behind = written.behind; short = search rules }
