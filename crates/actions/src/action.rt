@@ -1,0 +1,61 @@
+// Actions: steps, and the flips of a session taken together.
+ghost use Rattle.std.specs.Prelude.{◌≡◌, neg_ℤ};
+ghost use Rattle.lattice.specs.Starts.{held};
+ghost use Rattle.actions.specs.Actions.{moved, made, reversed};
+
+use crate::flip::{Flip, make_flips, take_back_flips};
+use lattice::map::Map;
+use lattice::start::Start;
+
+// Moves forward by a positive count, back by a negative one.
+pub fn move_by<M: Map>(map: &M, count: i32, start: &mut Start, cells: &mut [u8])
+    ensures { held start.new cells.new ≡ moved (M.forward map.now) (M.backward map.now) count (held start.old cells.old) }
+{
+    if count >= 0 {
+        map.advance_by(count.unsigned_abs(), start, cells);
+    } else {
+        map.retreat_by(count.unsigned_abs(), start, cells);
+    }
+}
+
+// Moves as the opposite count would, also where its type has no opposite.
+pub fn move_back_by<M: Map>(map: &M, count: i32, start: &mut Start, cells: &mut [u8])
+    ensures { held start.new cells.new ≡ moved (M.forward map.now) (M.backward map.now) (neg_ℤ count) (held start.old cells.old) }
+{
+    if count >= 0 {
+        map.retreat_by(count.unsigned_abs(), start, cells);
+    } else {
+        map.advance_by(count.unsigned_abs(), start, cells);
+    }
+}
+
+// An action, with its flips where they are kept.
+#[derive(Clone, Copy)]
+pub enum ActionRef<'a> {
+    Step(i32),
+    Edit(&'a [Flip]),
+}
+
+impl ActionRef<'_> {
+    ghost use Rattle.actions.specs.Actions.{action_of};
+
+    // Makes the action.
+    pub fn make<M: Map>(self, map: &M, start: &mut Start, cells: &mut [u8])
+        ensures { held start.new cells.new ≡ made (M.forward map.now) (M.backward map.now) (action_of self.entry) (held start.old cells.old) }
+    {
+        match self {
+            ActionRef::Step(count) => move_by(map, count, start, cells),
+            ActionRef::Edit(flips) => make_flips(flips, start, cells),
+        }
+    }
+
+    // Takes the action back.
+    pub fn take_back<M: Map>(self, map: &M, start: &mut Start, cells: &mut [u8])
+        ensures { held start.new cells.new ≡ made (M.forward map.now) (M.backward map.now) (reversed (action_of self.entry)) (held start.old cells.old) }
+    {
+        match self {
+            ActionRef::Step(count) => move_back_by(map, count, start, cells),
+            ActionRef::Edit(flips) => take_back_flips(flips, start, cells),
+        }
+    }
+}
