@@ -1,0 +1,67 @@
+-- What is known of a call that is accepted. Assumes nothing.
+use Rattle.std.proofs.Common.{◌≡◌, ℕ, zero, suc, ◌*◌, ◌<◌, ◌≤◌, ℤ, Bool, true, false, cond, nat_lt, nat_le, Some, None, Option, refl, arith, unsigned_abs}
+use Rattle.std.proofs.lemmas.Bool.{eqb-true}
+use Rattle.std.proofs.lemmas.Bool.Decides.{nat_tests}
+use Rattle.std.specs.Prelude.{◌==◌, ◌&&◌, not}
+use Rattle.actions.specs.Flips.{flip_refusal}
+use Rattle.faults.specs.declared.run.BenchRefusal.{BenchRefusal}
+use Rattle.faults.specs.declared.run.BenchRefusal.TheVariants.{Cells}
+use Rattle.ledger.specs.Ledgers.{Ledger}
+use Rattle.ledger.specs.Refusals.{is_step_count, if_room, step_refusal, or_else, if_some, own_refusal, takes_cells, refusal, if_accepted}
+use Rattle.scripts.specs.declared.record.Record.{Record}
+
+-- by whether there is a refusal
+pub by_acceptance : {A : Type 0} (P : A → Type 0) (e : Option BenchRefusal) (x y : A) → (e ≡ None → P x) → P y → P (if_accepted e x y)
+by_acceptance P None x y yes' no' = yes' refl
+by_acceptance P (Some e) x y yes' no' = no'
+
+-- a test that lets through
+passes : (b : Bool) (d : Option BenchRefusal) (e : BenchRefusal) → cond b d (Some e) ≡ None → (b ≡ true) × (d ≡ None)
+passes true d e h = (refl, h)
+passes false d e h = absurd cc
+
+pub room_left : (k : ℕ) → if_room k ≡ None → k < 256
+room_left k h = let t = (passes (nat_lt k 256) None _ h).0 in grind (arith, nat_tests)
+
+both : (a b : Bool) → (a && b) ≡ true → (a ≡ true) × (b ≡ true)
+both true b h = (refl, h)
+both false b h = absurd cc
+
+pub step_accepted : (z : ℤ) (k : ℕ) → step_refusal z k ≡ None → (0 < unsigned_abs z) × (unsigned_abs z ≤ 10000) × (k < 256)
+step_accepted z k h =
+    let p = passes (is_step_count z) (if_room k) _ h in
+    let q = both (nat_lt 0 (unsigned_abs z)) (nat_le (unsigned_abs z) 10000) p.0 in
+    let some = q.0 in
+    let few = q.1 in
+    (grind (arith, nat_tests), grind (arith, nat_tests), room_left k p.1)
+
+pub flip_accepted : (w h c r m k : ℕ) → or_else (flip_refusal w h c r m) (if_room k) ≡ None → (c < w) × (r < h) × (0 < m) × (m < 256) × (k < 256)
+flip_accepted w h c r m k e = here (flip_refusal w h c r m) refl e
+  where
+    here : (d : Option BenchRefusal) → flip_refusal w h c r m ≡ d → or_else d (if_room k) ≡ None → (c < w) × (r < h) × (0 < m) × (m < 256) × (k < 256)
+    here (Some x) is no' = absurd cc
+    here None is room' =
+        let p = passes (nat_lt c w && nat_lt r h) _ _ is in
+        let q = passes (nat_lt 0 m && nat_le m 255) None _ p.1 in
+        let s = both (nat_lt c w) (nat_lt r h) p.0 in
+        let t = both (nat_lt 0 m) (nat_le m 255) q.0 in
+        let a = s.0 in
+        let b = s.1 in
+        let x = t.0 in
+        let y = t.1 in
+        (grind (arith, nat_tests), grind (arith, nat_tests), grind (arith, nat_tests), grind (arith, nat_tests), room_left k room')
+
+-- a call that takes cells was handed as many as the lattice has, and it is not refused for anything else
+pub cells_accepted : (w h n : ℕ) (c : Record) (led : Ledger) → takes_cells c ≡ true → refusal w h n c led ≡ None → (n ≡ w * h) × (own_refusal w h c led ≡ None)
+cells_accepted w h n c led takes e = here (n == w * h) refl (rw takes at e)
+  where
+    here : (b : Bool) → (n == w * h) ≡ b → cond (true && not b) (Some Cells) (own_refusal w h c led) ≡ None → (n ≡ w * h) × (own_refusal w h c led ≡ None)
+    here true is e = (eqb-true n (w * h) is, e)
+    here false is e = absurd cc
+
+pub some_accepted : (k : ℕ) (e : BenchRefusal) → if_some k e ≡ None → 0 < k
+some_accepted k e h = here k h
+  where
+    here : (j : ℕ) → if_some j e ≡ None → 0 < j
+    here zero h = absurd cc
+    here (suc j) h = omega arith

@@ -1,0 +1,4 @@
+pub mod Accepted
+pub mod Held
+pub mod Mirrored
+pub mod Sound

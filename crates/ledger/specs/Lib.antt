@@ -1,0 +1,4 @@
+pub mod Effects
+pub mod Ledgers
+pub mod Mirrors
+pub mod Refusals

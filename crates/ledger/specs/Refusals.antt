@@ -1,0 +1,68 @@
+-- Which calls are refused. The sides of the lattice are w and h; a call that takes cells is handed n of them.
+--     max_entries               how many entries a journal has room for
+--     max_step                  the largest count of a step, either way
+--     is_step_count z           z can be the count of a step
+--     if_room k                 no refusal, where fewer than max_entries entries are used; k are
+--     step_refusal z k          why a step by z is refused where k entries are used
+--     refusal w h n c led       the first cause for which the call c is refused, if there is one
+--     if_accepted e x y         x if there is no refusal e, and y if there is
+--     answer w h n c led        what the call c answers: how many actions stand then, or why it is refused
+--     after w h n c led         the ledger after the call c: a refused call leaves it as it was
+use Rattle.std.specs.Prelude.{ℕ, ◌*◌, ◌==◌, ◌&&◌, Bool, true, false, not, length, ℤ, Option, Some, None, Result, nat_lt, nat_le, unsigned_abs, if◌then◌else◌}
+use Rattle.actions.specs.Answers.{unless}
+use Rattle.actions.specs.Flips.{flip_refusal}
+use Rattle.faults.specs.declared.run.BenchRefusal.{BenchRefusal}
+use Rattle.faults.specs.declared.run.BenchRefusal.TheVariants.{Cells, StepCount, NothingToUndo, NothingToRedo, JournalFull}
+use Rattle.ledger.specs.Ledgers.{Ledger, used, booked}
+use Rattle.scripts.specs.declared.record.Record.{Record}
+use Rattle.scripts.specs.declared.record.Record.TheVariants.{Step, Undo, Redo, Open, Flip, Clear, Close}
+
+abbrev pub max_entries : ℕ
+max_entries = 256
+
+abbrev pub max_step : ℕ
+max_step = 10000
+
+abbrev pub is_step_count : ℤ → Bool
+is_step_count z = nat_lt 0 (unsigned_abs z) && nat_le (unsigned_abs z) max_step
+
+abbrev pub if_room : ℕ → Option BenchRefusal
+if_room k = if nat_lt k max_entries then None else Some JournalFull
+
+abbrev pub step_refusal : ℤ → ℕ → Option BenchRefusal
+step_refusal z k = if is_step_count z then if_room k else Some StepCount
+
+-- the refusal e, or else d
+abbrev pub or_else : Option BenchRefusal → Option BenchRefusal → Option BenchRefusal
+or_else None d = d
+or_else (Some e) d = Some e
+
+abbrev pub if_some : ℕ → BenchRefusal → Option BenchRefusal
+if_some k e = if k == 0 then Some e else None
+
+abbrev pub own_refusal : ℕ → ℕ → Record → Ledger → Option BenchRefusal
+own_refusal w h (Step z) led = step_refusal z (used led)
+own_refusal w h Undo led = if_some (length led.standing) NothingToUndo
+own_refusal w h Redo led = if_some (length led.undone) NothingToRedo
+own_refusal w h Open led = None
+own_refusal w h (Flip c r m) led = or_else (flip_refusal w h c r m) (if_room (used led))
+own_refusal w h Clear led = None
+own_refusal w h Close led = None
+
+abbrev pub takes_cells : Record → Bool
+takes_cells Open = false
+takes_cells Close = false
+takes_cells _ = true
+
+abbrev pub refusal : ℕ → ℕ → ℕ → Record → Ledger → Option BenchRefusal
+refusal w h n c led = if takes_cells c && not (n == w * h) then Some Cells else own_refusal w h c led
+
+abbrev pub if_accepted : {A : Type 0} → Option BenchRefusal → A → A → A
+if_accepted None x y = x
+if_accepted (Some e) x y = y
+
+abbrev pub answer : ℕ → ℕ → ℕ → Record → Ledger → Result ℕ BenchRefusal
+answer w h n c led = unless (refusal w h n c led) (length (booked c led).standing)
+
+abbrev pub after : ℕ → ℕ → ℕ → Record → Ledger → Ledger
+after w h n c led = if_accepted (refusal w h n c led) (booked c led) led
