@@ -5,7 +5,7 @@ use Rattle.std.proofs.lemmas.Bool.Decides.{nat_tests}
 use Rattle.std.specs.Prelude.{◌==◌, ◌&&◌, not}
 use Rattle.actions.specs.Flips.{flip_refusal}
 use Rattle.faults.specs.declared.run.BenchRefusal.{BenchRefusal}
-use Rattle.faults.specs.declared.run.BenchRefusal.TheVariants.{Cells}
+use Rattle.faults.specs.declared.run.BenchRefusal.TheVariants.{Cells, JournalFull}
 use Rattle.ledger.specs.Ledgers.{Ledger}
 use Rattle.ledger.specs.Refusals.{is_step_count, if_room, step_refusal, or_else, if_some, own_refusal, takes_cells, refusal, if_accepted}
 use Rattle.scripts.specs.declared.record.Record.{Record}
@@ -65,3 +65,22 @@ some_accepted k e h = here k h
     here : (j : ℕ) → if_some j e ≡ None → 0 < j
     here zero h = absurd cc
     here (suc j) h = omega arith
+
+-- and the other way round
+test_passes : (k n : ℕ) → k < n → nat_lt k n ≡ true
+test_passes k n h = grind (arith, nat_tests)
+
+test_passes_le : (k n : ℕ) → k ≤ n → nat_le k n ≡ true
+test_passes_le k n h = grind (arith, nat_tests)
+
+test_fails : (k n : ℕ) → n ≤ k → nat_lt k n ≡ false
+test_fails k n h = grind (arith, nat_tests)
+
+pub room_refusal : (k : ℕ) → k < 256 → if_room k ≡ None
+room_refusal k h = rw (test_passes k 256 h) refl
+
+pub full_refusal : (k : ℕ) → 256 ≤ k → if_room k ≡ Some JournalFull
+full_refusal k h = rw (test_fails k 256 h) refl
+
+pub step_taken : (z : ℤ) (k : ℕ) → 0 < unsigned_abs z → unsigned_abs z ≤ 10000 → step_refusal z k ≡ if_room k
+step_taken z k some few = rw (test_passes 0 (unsigned_abs z) some, test_passes_le (unsigned_abs z) 10000 few) refl

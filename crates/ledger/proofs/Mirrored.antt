@@ -15,7 +15,7 @@ use Rattle.faults.specs.declared.run.BenchRefusal.TheVariants.{Cells}
 use Rattle.lattice.specs.Lattice.{Lattice}
 use Rattle.ledger.proofs.Accepted.{step_accepted, cells_accepted}
 use Rattle.ledger.specs.Effects.{standing_for}
-use Rattle.ledger.specs.Ledgers.{Ledger, size, entries, ticks, clock, used, edit_of, earlier, latest, booked}
+use Rattle.ledger.specs.Ledgers.{Ledger, size, entries, ticks, clock_of, used, edit_of, earlier, latest, booked}
 use Rattle.ledger.specs.Mirrors.{opposite, mirror_call}
 use Rattle.ledger.specs.Refusals.{own_refusal, takes_cells, refusal, if_accepted, answer, after}
 use Rattle.scripts.specs.Records.{kind_of}
@@ -53,7 +53,7 @@ neg_sum t (a ∷ acts) =
     ∙ neg_sum (t +ℤ ticks a) acts
 
 -- the clock is negated
-pub neg_clock : (acts : List Action) → clock (map mirror_action acts) ≡ neg_ℤ (clock acts)
+pub neg_clock : (acts : List Action) → clock_of (map mirror_action acts) ≡ neg_ℤ (clock_of acts)
 neg_clock acts = neg_sum (pos 0) acts
 
 moved_mirrored : (f g : Lattice → Lattice) (z : ℤ) (l : Lattice) → moved g f (neg_ℤ z) l ≡ moved f g z l

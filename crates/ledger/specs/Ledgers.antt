@@ -3,7 +3,7 @@
 --     at_opening       the ledger of a bench that was just opened
 --     entries acts     how many entries the actions take: one for a step, one for each flip
 --     used led         how many entries stand, the open session's with them
---     clock acts       the counts of the steps, added up
+--     clock_of acts       the counts of the steps, added up
 --     counts led p     what the count call answers where the phase is p: actions standing, actions undone, clock, phase
 --     edit_of fs       the flips fs as an edit; none where there is no flip
 --     booked c led     the ledger after the call c, if that is accepted
@@ -38,11 +38,11 @@ abbrev pub ticks : Action → ℤ
 ticks (Step z) = z
 ticks (Edit fs) = pos 0
 
-abbrev pub clock : List Action → ℤ
-clock acts = fold (λ t a. t +ℤ ticks a) (pos 0) acts
+abbrev pub clock_of : List Action → ℤ
+clock_of acts = fold (λ t a. t +ℤ ticks a) (pos 0) acts
 
 abbrev pub counts : Ledger → ℕ → ℕ × ℕ × ℤ × ℕ
-counts led p = (length led.standing, length led.undone, clock led.standing, p)
+counts led p = (length led.standing, length led.undone, clock_of led.standing, p)
 
 abbrev pub edit_of : List Flip → List Action
 edit_of [] = []

@@ -1,0 +1,5 @@
+pub mod Booking
+pub mod Clocks
+pub mod Entries
+pub mod Standing
+pub mod Used

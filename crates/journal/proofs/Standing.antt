@@ -1,0 +1,139 @@
+-- The actions that stand and those that were undone, by the entries before and behind the cut between them. Assumes nothing.
+use Rattle.std.proofs.Common.{◌≡◌, ℕ, suc, ◌+◌, ◌-◌, ◌<◌, ◌≤◌, List, [], ◌∷◌, ◌++◌, length, take, drop, get_or, sym, ap, ap₂, ◌∙◌, arith, drop-cons, subst, ℤ, unsigned_abs, w32, to_z, of_z}
+use Rattle.std.proofs.lemmas.List.{length-take-le, length-drop, take-take, drop-take, take_more, take-append-drop, get_or-take, drop-append-le, drop-drop, append-nil}
+use Rattle.std.proofs.lemmas.List.Sums.{sum_by-append}
+use Rattle.std.proofs.lemmas.Int.{to_z-of_z, fits_signed_from_abs}
+use Rattle.std.specs.List.{All}
+use Rattle.std.proofs.Math.Seq.{drop-append_seam, take-add}
+use Rattle.actions.specs.Actions.{Action, Step, Edit}
+use Rattle.actions.specs.declared.flip.Flip.{Flip}
+use Rattle.journal.proofs.Entries.{length_read_all, read_all_append, take_read_all, drop_read_all}
+use Rattle.journal.specs.Views.{places, all_places, read, read_all, IsEntry}
+use Rattle.journal.specs.declared.entry.Entry.{Entry}
+use Rattle.journal.specs.declared.entry.Entry.TheVariants.{Step as StepEntry, Edit as EditEntry}
+
+-- the last of n entries by itself
+pub places_more : (es : List Entry) (k : ℕ) (d : Entry) → k < length es → all_places (take (k + 1) es) ≡ all_places (take k es) + places (get_or es k d)
+places_more es k d k< = ap all_places (take_more es k d k<) ∙ sum_by-append places (take k es) (get_or es k d ∷ []) ∙ omega arith
+
+pub read_more : (es : List Entry) (fs : List Flip) (k : ℕ) (d : Entry) → k < length es → read_all (take (k + 1) es) fs ≡ read_all (take k es) fs ++ (read (get_or es k d) (drop (all_places (take k es)) fs) ∷ [])
+read_more es fs k d k< = ap (λ x. read_all x fs) (take_more es k d k<) ∙ read_all_append (take k es) (get_or es k d ∷ []) fs
+
+pub last_read : (es : List Entry) (fs : List Flip) (k : ℕ) (d : Entry) → k < length es → drop k (read_all (take (k + 1) es) fs) ≡ read (get_or es k d) (drop (all_places (take k es)) fs) ∷ []
+last_read es fs k d k< =
+    let front = read_all (take k es) fs in
+    let len : length front ≡ k = length_read_all (take k es) fs ∙ length-take-le k es (omega arith) in
+    ap (drop k) (read_more es fs k d k<)
+    ∙ ap (λ n. drop n (front ++ (read (get_or es k d) (drop (all_places (take k es)) fs) ∷ []))) (sym len)
+    ∙ drop-append_seam front (read (get_or es k d) (drop (all_places (take k es)) fs) ∷ [])
+
+module _ (es : List Entry) (fs : List Flip) (s u : ℕ) (inside : s + u ≤ length es) where
+  pub standing_read : take s (read_all (take (s + u) es) fs) ≡ read_all (take s es) fs
+  standing_read = take_read_all s (take (s + u) es) fs ∙ ap (λ x. read_all x fs) (take-take s (s + u) es (omega arith))
+
+  pub undone_read : drop s (read_all (take (s + u) es) fs) ≡ read_all (take u (drop s es)) (drop (all_places (take s es)) fs)
+  undone_read =
+      drop_read_all s (take (s + u) es) fs
+      ∙ ap₂ (λ x y. read_all x (drop (all_places y) fs)) (drop-take s u es) (take-take s (s + u) es (omega arith))
+
+  pub count_standing : length (take s (read_all (take (s + u) es) fs)) ≡ s
+  count_standing = ap length standing_read ∙ length_read_all (take s es) fs ∙ length-take-le s es (omega arith)
+
+  pub count_undone : length (drop s (read_all (take (s + u) es) fs)) ≡ u
+  count_undone =
+      let behind = length-drop s es in
+      ap length undone_read ∙ length_read_all (take u (drop s es)) (drop (all_places (take s es)) fs) ∙ length-take-le u (drop s es) (omega arith)
+
+  -- the latest action that stands
+  pub latest_read : (d : Entry) → 0 < s → drop (length (take s (read_all (take (s + u) es) fs)) - 1) (take s (read_all (take (s + u) es) fs))
+      ≡ read (get_or es (s - 1) d) (drop (all_places (take (s - 1) es)) fs) ∷ []
+  latest_read d some =
+      let one : s ≡ (s - 1) + 1 = omega arith in
+      ap₂ (λ n x. drop (n - 1) x) count_standing standing_read
+      ∙ ap (λ n. drop (s - 1) (read_all (take n es) fs)) one
+      ∙ last_read es fs (s - 1) d (omega arith)
+
+  -- the first that was undone
+  pub next_read : (d : Entry) → 0 < u → take 1 (drop s (read_all (take (s + u) es) fs)) ≡ read (get_or es s d) (drop (all_places (take s es)) fs) ∷ []
+  next_read d some =
+      let first : take u (drop s es) ≡ get_or es s d ∷ take (u - 1) (drop (suc s) es) =
+      ap₂ take one (drop-cons es s d (omega arith))
+      in
+      ap (take 1) undone_read ∙ ap (λ x. take 1 (read_all x (drop (all_places (take s es)) fs))) first
+    where
+      one : u ≡ suc (u - 1)
+      one = omega arith
+
+  pub none_undone : u ≡ 0 → [] ≡ take 1 (drop s (read_all (take (s + u) es) fs))
+  none_undone none =
+      sym (ap (take 1) (undone_read ∙ ap (λ n. read_all (take n (drop s es)) (drop (all_places (take s es)) fs)) none))
+
+pub entry_valid : (es : List Entry) (n k : ℕ) (d : Entry) → k < n → n ≤ length es → All IsEntry (take n es) → IsEntry (get_or es k d)
+entry_valid es n k d k< inside valid =
+    let len = length-take-le n es inside in
+    subst IsEntry (get_or-take n es k d k<) (valid k d (omega arith))
+
+-- the number that a kept step count is read as is the count
+pub count_read : (e : Entry) (z : ℤ) → IsEntry e → e ≡ StepEntry z → to_z w32 (of_z w32 z) ≡ z
+count_read e z valid is = let small : unsigned_abs z ≤ 10000 = (subst IsEntry is valid).1 in to_z-of_z w32 z (fits_signed_from_abs w32 z (omega arith))
+
+-- what is read of an entry that is known
+pub read_step : (e : Entry) (z : ℤ) (fs : List Flip) → e ≡ StepEntry z → read e fs ≡ Step z
+read_step e z fs is = ap (λ x. read x fs) is
+
+pub read_edit : (e : Entry) (n : ℕ) (fs : List Flip) → e ≡ EditEntry n → read e fs ≡ Edit (take n fs)
+read_edit e n fs is = ap (λ x. read x fs) is
+
+-- the places before those of the last of n entries
+pub places_before : (es : List Entry) (n m : ℕ) (d : Entry) → 0 < n → n ≤ length es → get_or es (n - 1) d ≡ EditEntry m → all_places (take (n - 1) es) + m ≡ all_places (take n es)
+places_before es n m d some inside is =
+    let one : (n - 1) + 1 ≡ n = omega arith in
+    sym (ap (λ k. all_places (take k es)) (sym one) ∙ places_more es (n - 1) d (omega arith) ∙ ap (λ e. all_places (take (n - 1) es) + places e) is)
+
+-- the part of the places that is lent
+pub part_before : (fs : List Flip) (a b m n : ℕ) → m ≡ n → a + n ≡ b → Edit (take (b - (b - m)) (drop (b - m) fs)) ≡ Edit (take n (drop a fs))
+part_before fs a b m n same ends =
+    let from : b - m ≡ a = omega arith in
+    let count : b - (b - m) ≡ n = omega arith in
+    ap₂ (λ k i. Edit (take k (drop i fs))) count from
+
+pub part_behind : (fs : List Flip) (a m n : ℕ) → m ≡ n → Edit (take (a + m - a) (drop a fs)) ≡ Edit (take n (drop a fs))
+part_behind fs a m n same = let count : a + m - a ≡ n = omega arith in ap (λ k. Edit (take k (drop a fs))) count
+
+-- the cut between what stands and what was undone, one further to the front or to the back
+module _ (es : List Entry) (fs : List Flip) (s u : ℕ) (inside : s + u ≤ length es) where
+  abbrev all : List Action
+  all = read_all (take (s + u) es) fs
+
+  pub back_standing : 0 < s → take (s - 1) (read_all (take (s - 1 + (u + 1)) es) fs) ≡ take (length (take s all) - 1) (take s all)
+  back_standing some =
+      let same : s - 1 + (u + 1) ≡ s + u = omega arith in
+      ap (λ n. take (s - 1) (read_all (take n es) fs)) same
+      ∙ sym (ap (λ n. take (n - 1) (take s all)) (count_standing es fs s u inside) ∙ take-take (s - 1) s all (omega arith))
+
+  pub back_undone : 0 < s → drop (s - 1) (read_all (take (s - 1 + (u + 1)) es) fs) ≡ drop (length (take s all) - 1) (take s all) ++ drop s all
+  back_undone some =
+      let same : s - 1 + (u + 1) ≡ s + u = omega arith in
+      let count = count_standing es fs s u inside in
+      ap (λ n. drop (s - 1) (read_all (take n es) fs)) same
+      ∙ ap (drop (s - 1)) (sym (take-append-drop s all))
+      ∙ drop-append-le (s - 1) (take s all) (drop s all) (omega arith)
+      ∙ ap (λ n. drop (n - 1) (take s all) ++ drop s all) (sym count)
+
+  pub on_standing : 0 < u → take (s + 1) (read_all (take (s + 1 + (u - 1)) es) fs) ≡ take s all ++ take 1 (drop s all)
+  on_standing some =
+      let same : s + 1 + (u - 1) ≡ s + u = omega arith in
+      ap (λ n. take (s + 1) (read_all (take n es) fs)) same ∙ take-add s 1 all
+
+  pub on_undone : 0 < u → drop (s + 1) (read_all (take (s + 1 + (u - 1)) es) fs) ≡ drop 1 (drop s all)
+  on_undone some =
+      let same : s + 1 + (u - 1) ≡ s + u = omega arith in
+      ap (λ n. drop (s + 1) (read_all (take n es) fs)) same ∙ sym (drop-drop 1 s all)
+
+  pub stays_standing : u ≡ 0 → take s all ≡ take s all ++ take 1 (drop s all)
+  stays_standing none = sym (ap (λ x. take s all ++ x) (sym (none_undone es fs s u inside none)) ∙ append-nil (take s all))
+
+  pub stays_undone : u ≡ 0 → drop s all ≡ drop 1 (drop s all)
+  stays_undone none =
+      let empty : drop s all ≡ [] = undone_read es fs s u inside ∙ ap (λ n. read_all (take n (drop s es)) (drop (all_places (take s es)) fs)) none in
+      empty ∙ sym (ap (drop 1) empty)

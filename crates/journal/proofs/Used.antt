@@ -1,0 +1,23 @@
+-- The places that a journal has used are the entries of what stands. Assumes nothing.
+use Rattle.std.proofs.Common.{◌≡◌, ◌+◌, ◌<◌, ◌≤◌, length, sym, ◌∙◌, arith}
+use Rattle.journal.proofs.Booking.{standing_places, has_place, entries_standing, fewer_than_places}
+use Rattle.journal.specs.Journals.{standing_of}
+use Rattle.journal.specs.Views.{places, IsEntry}
+use Rattle.journal.specs.declared.entry.Entry.{Entry}
+use Rattle.journal.specs.declared.journal.Journal.{Journal}
+use Rattle.ledger.specs.Ledgers.{entries}
+
+pub used_is : (j : Journal) → j.used ≡ entries (standing_of j)
+used_is j =
+    let s = j.sizes in
+    let p = j.counted in
+    let fewer = standing_places j.entries j.flips j.standing j.undone (omega arith) in
+    p.0 ∙ sym (entries_standing j.entries j.flips j.standing j.undone (omega arith) j.valid (omega arith))
+
+-- where there is room for its places, there is room for an action
+pub room_behind : (j : Journal) (e : Entry) → IsEntry e → entries (standing_of j) + places e ≤ 256 → j.standing < length j.entries
+room_behind j e valid room =
+    let s = j.sizes in
+    let p = j.counted in
+    let some = has_place e valid in
+    omega (arith, used_is j, fewer_than_places j.entries j.flips j.standing j.undone (omega arith) j.valid)

@@ -1,0 +1,182 @@
+// The journal of a bench at rest.
+ghost use Rattle.std.specs.Prelude.{◌≡◌, ◌+◌, ◌≤◌, length, take};
+ghost use Rattle.std.specs.List.{All};
+ghost use Rattle.ledger.specs.Ledgers.{clock_of};
+ghost use Rattle.journal.specs.Views.{IsEntry, places, all_places, read, read_all};
+
+use crate::entry::Entry;
+use actions::action::ActionRef;
+use actions::flip::Flip;
+use faults::run::BenchRefusal;
+
+const MAX_ENTRIES: usize = 256;
+
+const MAX_STEP: u32 = 10_000;
+
+const NO_FLIP: Flip = Flip {
+    col: 0,
+    row: 0,
+    mask: 0,
+};
+
+// First come the actions that stand, and then those that were undone.
+#[derive(Drop)]
+pub struct Journal {
+    entries: [Entry; MAX_ENTRIES],
+    flips: [Flip; MAX_ENTRIES],
+    standing: usize,
+    undone: usize,
+    // Places that are taken by what stands.
+    used: usize,
+    ghost sizes: { (length entries ≡ 256) × (length flips ≡ 256) × (standing + undone ≤ 256) },
+    ghost valid: { All IsEntry (take (standing + undone) entries) },
+    ghost counted: { (used ≡ all_places (take standing entries)) × (all_places (take (standing + undone) entries) ≤ 256) },
+}
+
+impl Journal {
+    ghost use Rattle.std.specs.Prelude.{[], map, option_to_list, ◌++◌, ◌∷◌, drop, Ok, ◌-◌};
+    ghost use Rattle.actions.specs.Actions.{action_of, Step};
+    ghost use Rattle.actions.specs.Answers.{unless};
+    ghost use Rattle.journal.specs.Journals.{standing_of, undone_of};
+    ghost use Rattle.ledger.specs.Ledgers.{entries};
+    ghost use Rattle.ledger.specs.Refusals.{step_refusal, if_accepted};
+
+    // Nothing stands, and nothing was undone.
+    pub fn new() -> Journal
+        ensures standing { standing_of result ≡ [] }
+        ensures undone { undone_of result ≡ [] }
+    {
+        Journal {
+            entries: [Entry::Step(1); MAX_ENTRIES],
+            flips: [NO_FLIP; MAX_ENTRIES],
+            standing: 0,
+            undone: 0,
+            used: 0,
+        }
+    }
+
+    // How many actions stand.
+    pub fn standing(&self) -> usize
+        ensures { result ≡ length (standing_of self.now) }
+    {
+        self.standing
+    }
+
+    // How many actions were undone.
+    pub fn undone(&self) -> usize
+        ensures { result ≡ length (undone_of self.now) }
+    {
+        self.undone
+    }
+
+    // The counts of the steps that stand, added up.
+    pub fn clock(&self) -> i32
+        ensures { result ≡ clock_of (standing_of self.now) }
+    {
+        let mut clock = 0;
+        for entry in &self.entries[..self.standing] {
+            clock += entry.ticks();
+        }
+        clock
+    }
+
+    // The latest action that stands.
+    pub fn last(&self) -> Option<ActionRef<'_>>
+        ensures { map action_of (option_to_list result) ≡ drop (length (standing_of self.now) - 1) (standing_of self.now) }
+    {
+        if self.standing == 0 {
+            return None;
+        }
+        Some(match self.entries[self.standing - 1] {
+            Entry::Step(count) => ActionRef::Step(count),
+            Entry::Edit(len) => {
+                ActionRef::Edit(&self.flips[self.used - usize::from(len)..self.used])
+            }
+        })
+    }
+
+    // The undone action that a redo makes.
+    pub fn next(&self) -> Option<ActionRef<'_>>
+        ensures { map action_of (option_to_list result) ≡ take 1 (undone_of self.now) }
+    {
+        if self.undone == 0 {
+            return None;
+        }
+        Some(match self.entries[self.standing] {
+            Entry::Step(count) => ActionRef::Step(count),
+            Entry::Edit(len) => {
+                ActionRef::Edit(&self.flips[self.used..self.used + usize::from(len)])
+            }
+        })
+    }
+
+    // The latest action that stands is now undone.
+    pub fn step_back(&mut self)
+        ensures standing { standing_of self.new ≡ take (length (standing_of self.old) - 1) (standing_of self.old) }
+        ensures undone { undone_of self.new ≡ drop (length (standing_of self.old) - 1) (standing_of self.old) ++ undone_of self.old }
+    {
+        if self.standing == 0 {
+            return;
+        }
+        self.used -= self.entries[self.standing - 1].places();
+        self.standing -= 1;
+        self.undone += 1;
+    }
+
+    // The first undone action stands again.
+    pub fn step_on(&mut self)
+        ensures standing { standing_of self.new ≡ standing_of self.old ++ take 1 (undone_of self.old) }
+        ensures undone { undone_of self.new ≡ drop 1 (undone_of self.old) }
+    {
+        if self.undone == 0 {
+            return;
+        }
+        self.used += self.entries[self.standing].places();
+        self.standing += 1;
+        self.undone -= 1;
+    }
+
+    // Nothing is undone any more.
+    pub fn forget_undone(&mut self)
+        ensures standing { standing_of self.new ≡ standing_of self.old }
+        ensures undone { undone_of self.new ≡ [] }
+    {
+        self.undone = 0;
+    }
+
+    // A step stands, and nothing is undone any more.
+    pub fn book_step(&mut self, count: i32) -> Result<(), BenchRefusal>
+        ensures answer { result ≡ unless (step_refusal count (entries (standing_of self.old))) tt }
+        ensures standing { standing_of self.new ≡ if_accepted (step_refusal count (entries (standing_of self.old))) (standing_of self.old ++ (Step count ∷ [])) (standing_of self.old) }
+        ensures undone { undone_of self.new ≡ if_accepted (step_refusal count (entries (standing_of self.old))) [] (undone_of self.old) }
+    {
+        if count == 0 || count.unsigned_abs() > MAX_STEP {
+            return Err(BenchRefusal::StepCount);
+        }
+        if self.used() >= MAX_ENTRIES {
+            return Err(BenchRefusal::JournalFull);
+        }
+        self.push(Entry::Step(count));
+        Ok(())
+    }
+
+    // How many entries stand.
+    fn used(&self) -> usize
+        ensures { result ≡ entries (standing_of self.now) }
+    {
+        self.used
+    }
+
+    // The entry stands, with the places behind those that are used, and nothing is undone any more.
+    fn push(&mut self, entry: Entry)
+        requires valid { IsEntry entry }
+        requires room { entries (standing_of self.old) + places entry ≤ 256 }
+        ensures standing { standing_of self.new ≡ standing_of self.old ++ (read entry (drop (entries (standing_of self.old)) self.old.flips) ∷ []) }
+        ensures undone { undone_of self.new ≡ [] }
+    {
+        self.entries[self.standing] = entry;
+        self.used += entry.places();
+        self.standing += 1;
+        self.undone = 0;
+    }
+}

@@ -1,0 +1,5 @@
+// The journal of a bench: what its ledger says, in memory of fixed size.
+#![tactic(auto)]
+
+pub mod entry;
+pub mod journal;
