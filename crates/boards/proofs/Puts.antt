@@ -1,27 +1,16 @@
--- Bytes that are written behind others. Assumes nothing.
+-- The lines of a board, written one piece behind another. Assumes nothing.
 use Rattle.std.proofs.Common.{◌≡◌, ℕ, ◌+◌, ◌-◌, ◌*◌, ◌<◌, ◌≤◌, ◌/◌, ◌%◌, List, [], ◌∷◌, ◌++◌, length, get_or, take, drop, flat_map, arith, sym, ◌∙◌, ap, suc, zero, codes, subst}
 use Rattle.std.proofs.Math.Nat.{suc-mul}
 use Rattle.std.proofs.lemmas.Fmt.{decimal_digit, decimal_step}
-use Rattle.std.proofs.lemmas.List.{append_assoc, append-nil, take_more, length-append, length-take-le, length-drop, take_at, drop_at, drop-drop}
+use Rattle.std.proofs.lemmas.List.{append_assoc, append-nil, take_more, length-append, length-take-le, length-drop, drop-drop}
 use Rattle.std.proofs.lemmas.List.Concat.{flat_map-append}
 use Rattle.std.specs.Fmt.{decimal}
 use Rattle.boards.proofs.HexText.{length-hex}
 use Rattle.boards.proofs.Rows.{next_place, place_within}
 use Rattle.boards.specs.Boards.{hex, rows, start_line, row_line, rows_text}
+use Rattle.text.proofs.Puts.{put_two, put_next, Written, piece}
 use Rattle.text.specs.Lines.{parted}
-use Rattle.boards.specs.Puts.{put_at}
-
-pub put_two : (m : List ℕ) (a : ℕ) (xs ys : List ℕ) → a + length xs + length ys ≤ length m → put_at (put_at m a xs) (a + length xs) ys ≡ put_at m a (xs ++ ys)
-put_two m a xs ys room =
-    let front : length (take a m) ≡ a = length-take-le a m (omega arith) in
-    let both : length (take a m ++ xs) ≡ a + length xs = omega (arith, length-append (take a m) xs, front) in
-    let same : put_at m a xs ≡ (take a m ++ xs) ++ drop (a + length xs) m = sym (append_assoc (take a m) xs (drop (a + length xs) m)) in
-    let before : take (a + length xs) (put_at m a xs) ≡ take a m ++ xs = ap (take (a + length xs)) same ∙ take_at (take a m ++ xs) (drop (a + length xs) m) (a + length xs) both in
-    let after : drop (a + length xs) (put_at m a xs) ≡ drop (a + length xs) m = ap (drop (a + length xs)) same ∙ drop_at (take a m ++ xs) (drop (a + length xs) m) (a + length xs) both in
-    let behind : drop (a + length xs + length ys) (put_at m a xs) ≡ drop (a + length xs + length ys) m = sym (drop-drop (length ys) (a + length xs) (put_at m a xs)) ∙ ap (drop (length ys)) after ∙ drop-drop (length ys) (a + length xs) m in
-    let place : a + length xs + length ys ≡ a + length (xs ++ ys) = omega (arith, length-append xs ys) in
-    ap (λ x. x ++ (ys ++ drop (a + length xs + length ys) (put_at m a xs))) before ∙ ap (λ x. (take a m ++ xs) ++ (ys ++ x)) behind ∙ append_assoc (take a m) xs (ys ++ drop (a + length xs + length ys) m)
-    ∙ ap (λ x. take a m ++ x) (sym (append_assoc xs ys (drop (a + length xs + length ys) m))) ∙ ap (λ k. take a m ++ ((xs ++ ys) ++ drop k m)) place
+use Rattle.text.specs.Puts.{put_at}
 
 -- numbers of at most three digits
 pub one_digit : (n : ℕ) → n < 10 → decimal n ≡ (48 + n % 10) ∷ []
@@ -78,10 +67,6 @@ length-rows_text w h (suc i) cs l count =
     let text : rows_text w (suc i) cs ≡ rows_text w i cs ++ row_line row = ap (flat_map row_line) (rows_push w i cs) ∙ flat_map-append row_line (rows w i cs) (row ∷ []) ∙ ap (λ x. rows_text w i cs ++ x) (append-nil (row_line row)) in
     omega (arith, ap length text, length-append (rows_text w i cs) (row_line row), length-rows_text w h i cs (omega arith) count, length-row_line row, row_inside w h i cs (omega arith) count, suc-mul i (2 * w + 5))
 
--- a piece that is put behind what was put before
-pub put_next : (m : List ℕ) (a : ℕ) (xs ys : List ℕ) (now new : List ℕ) (end : ℕ) → now ≡ put_at m a xs → end ≡ a + length xs → new ≡ put_at now end ys → a + length xs + length ys ≤ length m → new ≡ put_at m a (xs ++ ys)
-put_next m a xs ys now new end before place here room = here ∙ ap (λ x. put_at x end ys) before ∙ ap (λ k. put_at (put_at m a xs) k ys) place ∙ put_two m a xs ys room
-
 -- the line of a row
 pub row_put : (m : List ℕ) (a : ℕ) (cs one two three : List ℕ) (b c : ℕ) → a + 2 * length cs + 5 ≤ length m → one ≡ put_at m a (codes "row\t") → b ≡ a + 4 → two ≡ put_at one b (flat_map hex cs) → c ≡ b + 2 * length cs → three ≡ put_at two c (10 ∷ []) → three ≡ put_at m a (row_line cs)
 row_put m a cs one two three b c room first b-is second c-is third =
@@ -107,17 +92,6 @@ row_step m cs a w h i end behind now new l count room place before here behind-i
     let row : take ((i + 1) * w - i * w) (drop (i * w) cs) ≡ take w (drop (i * w) cs) = ap (λ k. take k (drop (i * w) cs)) wide in
     let len : length (take ((i + 1) * w - i * w) (drop (i * w) cs)) ≡ w = ap length row ∙ row_inside w h i cs l count in
     (omega (arith, behind-is, len, place, next_place (2 * w + 5) i), row_more_put m cs a w h i end now new (take ((i + 1) * w - i * w) (drop (i * w) cs)) l count room place before row here)
-
--- one piece behind another, from the beginning of m on
-pub record Written (m xs now : List ℕ) (end : ℕ) : Type 0 where
-  pub memory : now ≡ put_at m 0 xs
-  pub behind : end ≡ length xs
-
-pub piece : (m xs ys now new : List ℕ) (end behind : ℕ) → Written m xs now end → new ≡ put_at now end ys → behind ≡ end + length ys → length xs + length ys ≤ length m → Written m (xs ++ ys) new behind
-piece m xs ys now new end behind w here is room = record {
-  memory = put_next m 0 xs ys now new end w.memory (omega (arith, w.behind)) here (omega (arith, room));
-  behind = omega (arith, w.behind, is, length-append xs ys);
-}
 
 pub start_pieces : (w h p : ℕ) → ((((((codes "board\t" ++ decimal w) ++ (9 ∷ [])) ++ decimal h) ++ (9 ∷ [])) ++ decimal p) ++ (10 ∷ [])) ≡ start_line w h p
 start_pieces w h p = simp append_assoc

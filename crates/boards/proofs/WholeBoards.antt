@@ -5,9 +5,10 @@ use Rattle.std.proofs.lemmas.List.{length-append, take_at}
 use Rattle.lattice.specs.Lattice.{Whole}
 use Rattle.lattice.specs.Starts.{width_of, height_of, phase_of, held}
 use Rattle.lattice.specs.declared.start.Start.{Start}
-use Rattle.boards.proofs.Puts.{put_two, length-rows_text}
+use Rattle.boards.proofs.Puts.{length-rows_text}
+use Rattle.text.proofs.Puts.{put_two}
 use Rattle.boards.specs.Boards.{start_line, rows_text, board_text}
-use Rattle.boards.specs.Puts.{put_at}
+use Rattle.text.specs.Puts.{put_at}
 use Rattle.boards.specs.Answers.{BoardWritten}
 use Rattle.boards.specs.declared.refusal.BoardRefusal.TheVariants.{MemoryTooShort}
 

@@ -1,6 +1,5 @@
 pub mod Answers
 pub mod Boards
-pub mod Puts
 pub mod Reading
 pub mod Refusals
 pub mod Steps

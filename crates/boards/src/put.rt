@@ -2,7 +2,7 @@
 ghost use Rattle.std.specs.Prelude.{◌≡◌, ◌+◌, ◌*◌, ◌≤◌, false, length, flat_map};
 ghost use Rattle.std.specs.Fmt.{decimal, digit_glyph};
 ghost use Rattle.boards.specs.Boards.{hex};
-ghost use Rattle.boards.specs.Puts.{put_at};
+ghost use Rattle.text.specs.Puts.{put_at};
 
 // Writes the bytes to this place, and answers the place behind them.
 pub(crate) fn put(bytes: &[u8], memory: &mut [u8], at: usize) -> usize

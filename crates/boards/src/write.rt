@@ -4,7 +4,7 @@ ghost use Rattle.lattice.specs.Lattice.{Whole};
 ghost use Rattle.lattice.specs.Starts.{width_of, height_of, phase_of, held};
 ghost use Rattle.boards.specs.Answers.{BoardWritten};
 ghost use Rattle.boards.specs.Boards.{start_line, row_line, rows_text};
-ghost use Rattle.boards.specs.Puts.{put_at};
+ghost use Rattle.text.specs.Puts.{put_at};
 ghost use Rattle.boards.specs.Reading.{board};
 
 use crate::put::{put, put_cells, put_number};

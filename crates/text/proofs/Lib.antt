@@ -6,6 +6,7 @@ pub mod FreeNumbers
 pub mod LineFields
 pub mod LinesLeft
 pub mod ReaderFacts
+pub mod Puts
 pub mod Separators
 pub mod Written
 pub mod WholeTexts

@@ -1,7 +1,7 @@
 use Rattle.std.proofs.Common.{◌≡◌, get_or, arith, rules, refl}
 use Rattle.boards.proofs.Puts.{cell_put}
 use Rattle.boards.specs.Boards.{hex}
-use Rattle.boards.specs.Puts.{put_at}
+use Rattle.text.specs.Puts.{put_at}
 use Rattle.boards.proofs.put.put_cells.Goals as goal
 
 pub loop-cell-preserved : goal.loop-cell-preserved

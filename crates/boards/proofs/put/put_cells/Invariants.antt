@@ -1,7 +1,7 @@
 -- The digits of the cells so far are written.
 use Rattle.std.proofs.Common.{◌≡◌, ◌+◌, ◌*◌, take, flat_map}
 use Rattle.boards.specs.Boards.{hex}
-use Rattle.boards.specs.Puts.{put_at}
+use Rattle.text.specs.Puts.{put_at}
 use Rattle.boards.proofs.put.put_cells.Given as goal
 
 abbrev pub invariant-loop-cell : goal.invariant-loop-cell

@@ -1,7 +1,7 @@
 -- The lines of the rows so far are written.
 use Rattle.std.proofs.Common.{◌≡◌, ◌+◌, ◌*◌}
 use Rattle.boards.specs.Boards.{rows_text}
-use Rattle.boards.specs.Puts.{put_at}
+use Rattle.text.specs.Puts.{put_at}
 use Rattle.boards.proofs.write.put_rows.Given as goal
 
 abbrev pub invariant-loop-row : goal.invariant-loop-row

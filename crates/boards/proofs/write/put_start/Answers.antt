@@ -2,7 +2,7 @@ use Rattle.std.proofs.Common.{◌≡◌, ◌+◌, ◌≤◌, length, rules}
 use Rattle.std.specs.Fmt.{decimal}
 use Rattle.lattice.specs.Starts.{width_of, height_of, phase_of}
 use Rattle.boards.proofs.Puts.{start_put}
-use Rattle.boards.specs.Puts.{put_at}
+use Rattle.text.specs.Puts.{put_at}
 use Rattle.boards.proofs.write.put_start.Goals as goal
 
 pub returns : goal.returns

@@ -2,7 +2,7 @@ use Rattle.std.proofs.Common.{◌≡◌, ◌+◌, ◌*◌, ◌≤◌, length, ru
 use Rattle.lattice.specs.Starts.{width_of, height_of}
 use Rattle.boards.proofs.WholeBoards.{board_put}
 use Rattle.boards.specs.Boards.{rows_text}
-use Rattle.boards.specs.Puts.{put_at}
+use Rattle.text.specs.Puts.{put_at}
 use Rattle.boards.proofs.write.write_whole.Goals as goal
 
 pub returns : goal.returns
