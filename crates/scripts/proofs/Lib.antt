@@ -4,3 +4,4 @@ pub mod ScriptFaults
 pub mod ScriptLaws
 pub mod ScriptLines
 pub mod Words
+pub mod WrittenLengths

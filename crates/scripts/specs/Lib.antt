@@ -5,3 +5,4 @@ pub mod Records
 pub mod Runs
 pub mod States
 pub mod Words
+pub mod Writing

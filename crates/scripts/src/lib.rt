@@ -7,3 +7,4 @@ pub mod records;
 pub mod run;
 pub mod state;
 pub mod word;
+pub mod write;

@@ -1,6 +1,6 @@
 // The words that records begin with.
 ghost use Rattle.std.specs.Prelude.{◌≡◌};
-ghost use Rattle.scripts.specs.Words.{word_of};
+ghost use Rattle.scripts.specs.Words.{spelling, word_of};
 
 #[derive(Clone, Copy, PartialEq, Eq, Debug)]
 pub enum Word {
@@ -27,6 +27,21 @@ impl Word {
             b"clear" => Some(Word::Clear),
             b"close" => Some(Word::Close),
             _ => None,
+        }
+    }
+
+    // Its spelling.
+    pub fn spelling(self) -> &'static str
+        ensures { result.now ≡ spelling self }
+    {
+        match self {
+            Word::Step => "step",
+            Word::Undo => "undo",
+            Word::Redo => "redo",
+            Word::Open => "open",
+            Word::Flip => "flip",
+            Word::Clear => "clear",
+            Word::Close => "close",
         }
     }
 }

@@ -10,6 +10,8 @@ mod fields;
 #[cfg(test)]
 mod large_texts;
 #[cfg(test)]
+mod records_written;
+#[cfg(test)]
 mod runs;
 #[cfg(test)]
 mod scripts_checked;
