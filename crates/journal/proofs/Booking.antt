@@ -1,13 +1,13 @@
 -- An action that is booked behind those that stand. Assumes nothing.
 use Rattle.std.proofs.Common.{◌≡◌, ℕ, ◌+◌, ◌<◌, ◌≤◌, List, [], ◌∷◌, ◌++◌, length, take, drop, set, sym, ap, ◌∙◌, arith, subst}
 use Rattle.std.proofs.lemmas.Grind.{take-set_at}
-use Rattle.std.proofs.lemmas.List.{length-take-le, length-append, take-take, take_all, drop_all}
+use Rattle.std.proofs.lemmas.List.{length-take-le, length-drop, drop-set-add, take_more_set, length-append, take-take, take_all, drop_all}
 use Rattle.std.proofs.lemmas.List.Elements.{All-head, All-tail, All-push, All-take}
 use Rattle.std.proofs.lemmas.List.Sums.{sum_by-append, sum_by-take-le}
 use Rattle.std.specs.List.{All}
 use Rattle.actions.specs.declared.flip.Flip.{Flip}
-use Rattle.journal.proofs.Entries.{places_cons, read_all_append, length_read_all, entries_read}
-use Rattle.journal.proofs.Standing.{standing_read, count_standing}
+use Rattle.journal.proofs.Entries.{places_cons, read_all_set, read_all_append, length_read_all, entries_read}
+use Rattle.journal.proofs.Standing.{standing_read, count_standing, count_undone}
 use Rattle.journal.specs.Views.{places, all_places, read, read_all, IsEntry}
 use Rattle.journal.specs.declared.entry.Entry.{Entry}
 use Rattle.journal.specs.declared.entry.Entry.TheVariants.{Step as StepEntry, Edit as EditEntry}
@@ -89,3 +89,17 @@ module _ (es : List Entry) (fs : List Flip) (s u : ℕ) (inside : s + u ≤ leng
 
   pub forgotten_undone : drop s (read_all (take (s + 0) es) fs) ≡ []
   forgotten_undone = let len = length_read_all (take (s + 0) es) fs in let count = length-take-le (s + 0) es (omega arith) in drop_all s _ (omega arith)
+
+-- a flip that is written behind the places of what stands, where nothing is undone
+module _ (es : List Entry) (fs : List Flip) (s u k : ℕ) (x : Flip) (inside : s + u ≤ length es) (behind : all_places (take s es) ≤ k) where
+  pub put_all : drop s (read_all (take (s + u) es) fs) ≡ [] → read_all (take (s + u) es) (set fs k x) ≡ read_all (take (s + u) es) fs
+  put_all none =
+      let count = count_undone es fs s u inside in
+      let empty = ap length none in
+      let same : s + u ≡ s = omega arith in
+      ap (λ n. read_all (take n es) (set fs k x)) same ∙ read_all_set (take s es) fs k x behind ∙ ap (λ n. read_all (take n es) fs) (sym same)
+
+pub put_place : (fs : List Flip) (used at : ℕ) (x : Flip) → used + at < length fs → take (at + 1) (drop used (set fs (used + at) x)) ≡ take at (drop used fs) ++ (x ∷ [])
+put_place fs used at x inside =
+    let len = length-drop used fs in
+    ap (take (at + 1)) (drop-set-add used fs at x) ∙ take_more_set (drop used fs) at x (omega arith)

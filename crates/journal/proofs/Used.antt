@@ -1,7 +1,8 @@
 -- The places that a journal has used are the entries of what stands. Assumes nothing.
-use Rattle.std.proofs.Common.{◌≡◌, ◌+◌, ◌<◌, ◌≤◌, length, sym, ◌∙◌, arith}
+use Rattle.std.proofs.Common.{◌≡◌, ◌-◌, ◌+◌, ◌<◌, ◌≤◌, length, sym, ◌∙◌, arith}
+use Rattle.std.proofs.lemmas.List.{length-drop}
 use Rattle.journal.proofs.Booking.{standing_places, has_place, entries_standing, fewer_than_places}
-use Rattle.journal.specs.Journals.{standing_of}
+use Rattle.journal.specs.Journals.{standing_of, places_of}
 use Rattle.journal.specs.Views.{places, IsEntry}
 use Rattle.journal.specs.declared.entry.Entry.{Entry}
 use Rattle.journal.specs.declared.journal.Journal.{Journal}
@@ -21,3 +22,13 @@ room_behind j e valid room =
     let p = j.counted in
     let some = has_place e valid in
     omega (arith, used_is j, fewer_than_places j.entries j.flips j.standing j.undone (omega arith) j.valid)
+
+pub standing_room : (j : Journal) → entries (standing_of j) ≤ 256
+standing_room j =
+    let s = j.sizes in
+    let p = j.counted in
+    omega (arith, used_is j, standing_places j.entries j.flips j.standing j.undone (omega arith))
+
+-- the places behind those of what stands
+pub places_left : (j : Journal) → length (places_of j) ≡ 256 - entries (standing_of j)
+places_left j = let s = j.sizes in length-drop (entries (standing_of j)) j.flips ∙ omega arith

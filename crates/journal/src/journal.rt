@@ -1,5 +1,5 @@
 // The journal of a bench at rest.
-ghost use Rattle.std.specs.Prelude.{◌≡◌, ◌+◌, ◌≤◌, length, take};
+ghost use Rattle.std.specs.Prelude.{◌≡◌, ◌+◌, ◌<◌, ◌≤◌, length, take};
 ghost use Rattle.std.specs.List.{All};
 ghost use Rattle.ledger.specs.Ledgers.{clock_of};
 ghost use Rattle.journal.specs.Views.{IsEntry, places, all_places, read, read_all};
@@ -37,7 +37,7 @@ impl Journal {
     ghost use Rattle.std.specs.Prelude.{[], map, option_to_list, ◌++◌, ◌∷◌, drop, Ok, ◌-◌};
     ghost use Rattle.actions.specs.Actions.{action_of, Step};
     ghost use Rattle.actions.specs.Answers.{unless};
-    ghost use Rattle.journal.specs.Journals.{standing_of, undone_of};
+    ghost use Rattle.journal.specs.Journals.{standing_of, undone_of, places_of};
     ghost use Rattle.ledger.specs.Ledgers.{entries};
     ghost use Rattle.ledger.specs.Refusals.{step_refusal, if_accepted};
 
@@ -161,22 +161,43 @@ impl Journal {
     }
 
     // How many entries stand.
-    fn used(&self) -> usize
+    pub(crate) fn used(&self) -> usize
         ensures { result ≡ entries (standing_of self.now) }
     {
         self.used
     }
 
     // The entry stands, with the places behind those that are used, and nothing is undone any more.
-    fn push(&mut self, entry: Entry)
+    pub(crate) fn push(&mut self, entry: Entry)
         requires valid { IsEntry entry }
         requires room { entries (standing_of self.old) + places entry ≤ 256 }
-        ensures standing { standing_of self.new ≡ standing_of self.old ++ (read entry (drop (entries (standing_of self.old)) self.old.flips) ∷ []) }
+        ensures standing { standing_of self.new ≡ standing_of self.old ++ (read entry (places_of self.old) ∷ []) }
         ensures undone { undone_of self.new ≡ [] }
     {
         self.entries[self.standing] = entry;
         self.used += entry.places();
         self.standing += 1;
         self.undone = 0;
+    }
+
+    // So many of the places behind those that are used.
+    pub(crate) fn places(&self, count: usize) -> &[Flip]
+        requires { entries (standing_of self.now) + count ≤ 256 }
+        ensures { result.now ≡ take count (places_of self.now) }
+    {
+        let used = self.used();
+        &self.flips[used..used + count]
+    }
+
+    // Writes a flip to the place `at` behind those that are used.
+    pub(crate) fn put(&mut self, at: usize, flip: Flip)
+        requires room { entries (standing_of self.old) + at < 256 }
+        requires nothing_undone { undone_of self.old ≡ [] }
+        ensures standing { standing_of self.new ≡ standing_of self.old }
+        ensures undone { undone_of self.new ≡ [] }
+        ensures places { take (at + 1) (places_of self.new) ≡ take at (places_of self.old) ++ (flip ∷ []) }
+    {
+        let place = self.used() + at;
+        self.flips[place] = flip;
     }
 }
