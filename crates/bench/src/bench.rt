@@ -1,0 +1,126 @@
+// A bench at rest.
+ghost use Rattle.std.specs.Prelude.{◌≡◌};
+ghost use Rattle.bench.specs.Benches.{map_of, start_of, ledger_of, handed};
+ghost use Rattle.bench.specs.Calls.{answered, booked_by, made_by};
+ghost use Rattle.bench.specs.Sessions.{session_map, session_start, session_ledger};
+ghost use Rattle.scripts.specs.declared.record.Record.TheVariants.{Step, Undo, Redo, Open};
+
+use crate::session::Session;
+use actions::action::move_by;
+use faults::run::BenchRefusal;
+use journal::journal::Journal;
+use journal::open_journal::OpenJournal;
+use lattice::map::Map;
+use lattice::start::Start;
+
+// What a count call answers: actions that stand, actions that were undone, the clock, the phase.
+pub type Counts = (usize, usize, i32, u8);
+
+// It holds no cells: a call that needs them is lent them.
+#[derive(Drop)]
+pub struct Bench<'m, M> {
+    pub(crate) map: &'m M,
+    pub(crate) start: Start,
+    pub(crate) journal: Journal,
+}
+
+impl<'m, M: Map> Bench<'m, M> {
+    ghost use Rattle.lattice.specs.Starts.{phase_of};
+    ghost use Rattle.ledger.specs.Ledgers.{at_opening, counts, booked};
+
+    // Opens a bench. The lattice of its opening is the start record with the cells that the caller has then.
+    pub fn new(map: &'m M, start: Start) -> Bench<'m, M>
+        ensures map { map_of result ≡ map.now }
+        ensures start { start_of result ≡ start }
+        ensures ledger { ledger_of result ≡ at_opening }
+    {
+        Bench {
+            map,
+            start,
+            journal: Journal::new(),
+        }
+    }
+
+    // The start record of the lattice that is held now.
+    pub fn start(&self) -> Start
+        ensures { result ≡ start_of self.now }
+    {
+        self.start
+    }
+
+    pub fn counts(&self) -> Counts
+        ensures { result ≡ counts (ledger_of self.now) (phase_of (start_of self.now)) }
+    {
+        (
+            self.journal.standing(),
+            self.journal.undone(),
+            self.journal.clock(),
+            self.start.phase(),
+        )
+    }
+
+    // Moves forward by a positive count, back by a negative one.
+    pub fn step(&mut self, count: i32, cells: &mut [u8]) -> Result<usize, BenchRefusal>
+        ensures answer { result ≡ answered (handed self.old cells.old) (Step count) (ledger_of self.old) }
+        ensures ledger { ledger_of self.new ≡ booked_by (handed self.old cells.old) (Step count) (ledger_of self.old) }
+        ensures cells { handed self.new cells.new ≡ made_by (M.forward (map_of self.old)) (M.backward (map_of self.old)) (Step count) (ledger_of self.old) (handed self.old cells.old) }
+        ensures map { map_of self.new ≡ map_of self.old }
+    {
+        if !self.start.is_whole(cells) {
+            return Err(BenchRefusal::Cells);
+        }
+        self.journal.book_step(count)?;
+        move_by(self.map, count, &mut self.start, cells);
+        Ok(self.journal.standing())
+    }
+
+    // Takes the latest action back.
+    #[tactic(auto, using(crate::proofs::Latest::none_latest))]
+    pub fn undo(&mut self, cells: &mut [u8]) -> Result<usize, BenchRefusal>
+        ensures answer { result ≡ answered (handed self.old cells.old) Undo (ledger_of self.old) }
+        ensures ledger { ledger_of self.new ≡ booked_by (handed self.old cells.old) Undo (ledger_of self.old) }
+        ensures cells { handed self.new cells.new ≡ made_by (M.forward (map_of self.old)) (M.backward (map_of self.old)) Undo (ledger_of self.old) (handed self.old cells.old) }
+        ensures map { map_of self.new ≡ map_of self.old }
+    {
+        if !self.start.is_whole(cells) {
+            return Err(BenchRefusal::Cells);
+        }
+        let Some(action) = self.journal.last() else {
+            return Err(BenchRefusal::NothingToUndo);
+        };
+        action.take_back(self.map, &mut self.start, cells);
+        self.journal.step_back();
+        Ok(self.journal.standing())
+    }
+
+    // Makes again what was taken back last.
+    pub fn redo(&mut self, cells: &mut [u8]) -> Result<usize, BenchRefusal>
+        ensures answer { result ≡ answered (handed self.old cells.old) Redo (ledger_of self.old) }
+        ensures ledger { ledger_of self.new ≡ booked_by (handed self.old cells.old) Redo (ledger_of self.old) }
+        ensures cells { handed self.new cells.new ≡ made_by (M.forward (map_of self.old)) (M.backward (map_of self.old)) Redo (ledger_of self.old) (handed self.old cells.old) }
+        ensures map { map_of self.new ≡ map_of self.old }
+    {
+        if !self.start.is_whole(cells) {
+            return Err(BenchRefusal::Cells);
+        }
+        let Some(action) = self.journal.next() else {
+            return Err(BenchRefusal::NothingToRedo);
+        };
+        action.make(self.map, &mut self.start, cells);
+        self.journal.step_on();
+        Ok(self.journal.standing())
+    }
+
+    // Opens a session. What was undone is forgotten.
+    pub fn open(self) -> Session<'m, M>
+        ensures ledger { session_ledger result ≡ booked Open (ledger_of self.entry) }
+        ensures start { session_start result ≡ start_of self.entry }
+        ensures map { session_map result ≡ map_of self.entry }
+    {
+        Session {
+            map: self.map,
+            start: self.start,
+            journal: OpenJournal::new(self.journal),
+        }
+    }
+}
