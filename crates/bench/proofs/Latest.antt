@@ -1,5 +1,5 @@
 -- Where there is no latest action, none stands. Assumes nothing.
-use Rattle.std.proofs.Common.{◌≡◌, ℕ, ◌-◌, List, [], ◌∷◌, length, drop, refl, ap, sym, arith}
+use Rattle.std.proofs.Common.{◌≡◌, ◌-◌, List, [], length, drop, ap, arith}
 use Rattle.std.proofs.lemmas.List.{length-drop}
 
 pub none_latest : {A : Type 0} → (xs : List A) → [] ≡ drop (length xs - 1) xs → length xs ≡ 0

@@ -6,7 +6,7 @@ ghost use Rattle.bench.specs.Sessions.{session_map, session_start, session_ledge
 ghost use Rattle.scripts.specs.declared.record.Record.TheVariants.{Flip as FlipCall, Clear, Close};
 
 use crate::bench::{Bench, Counts};
-use actions::flip::{take_back_flips, Flip};
+use actions::flip::{Flip, take_back_flips};
 use faults::run::BenchRefusal;
 use journal::open_journal::OpenJournal;
 use lattice::map::Map;

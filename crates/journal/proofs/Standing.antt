@@ -44,14 +44,24 @@ module _ (es : List Entry) (fs : List Flip) (s u : ℕ) (inside : s + u ≤ leng
       let behind = length-drop s es in
       ap length undone_read ∙ length_read_all (take u (drop s es)) (drop (all_places (take s es)) fs) ∙ length-take-le u (drop s es) (omega arith)
 
-  -- the latest action that stands
-  pub latest_read : (d : Entry) → 0 < s → drop (length (take s (read_all (take (s + u) es) fs)) - 1) (take s (read_all (take (s + u) es) fs))
-      ≡ read (get_or es (s - 1) d) (drop (all_places (take (s - 1) es)) fs) ∷ []
-  latest_read d some =
-      let one : s ≡ (s - 1) + 1 = omega arith in
-      ap₂ (λ n x. drop (n - 1) x) count_standing standing_read
-      ∙ ap (λ n. drop (s - 1) (read_all (take n es) fs)) one
-      ∙ last_read es fs (s - 1) d (omega arith)
+  -- the first c of the actions that stand
+  module _ (c : ℕ) (within : c ≤ s) where
+    pub first_read : take c (take s (read_all (take (s + u) es) fs)) ≡ read_all (take c es) fs
+    first_read = ap (take c) standing_read ∙ take_read_all c (take s es) fs ∙ ap (λ x. read_all x fs) (take-take c s es within)
+
+    pub count_first : length (take c (take s (read_all (take (s + u) es) fs))) ≡ c
+    count_first = ap length first_read ∙ length_read_all (take c es) fs ∙ length-take-le c es (omega arith)
+
+    pub but_last : take (c - 1) (take s (read_all (take (s + u) es) fs)) ≡ take (length (take c (take s (read_all (take (s + u) es) fs))) - 1) (take c (take s (read_all (take (s + u) es) fs)))
+    but_last = sym (ap (λ n. take (n - 1) (take c (take s (read_all (take (s + u) es) fs)))) count_first ∙ take-take (c - 1) c (take s (read_all (take (s + u) es) fs)) (omega arith))
+
+    pub last_of_first : (d : Entry) → 0 < c → drop (length (take c (take s (read_all (take (s + u) es) fs))) - 1) (take c (take s (read_all (take (s + u) es) fs)))
+        ≡ read (get_or es (c - 1) d) (drop (all_places (take (c - 1) es)) fs) ∷ []
+    last_of_first d some =
+        let one : c ≡ (c - 1) + 1 = omega arith in
+        ap₂ (λ n x. drop (n - 1) x) count_first first_read
+        ∙ ap (λ n. drop (c - 1) (read_all (take n es) fs)) one
+        ∙ last_read es fs (c - 1) d (omega arith)
 
   -- the first that was undone
   pub next_read : (d : Entry) → 0 < u → take 1 (drop s (read_all (take (s + u) es) fs)) ≡ read (get_or es s d) (drop (all_places (take s es)) fs) ∷ []

@@ -1,3 +1,4 @@
+pub mod Backwards
 pub mod Journals
 pub mod OpenJournals
 pub mod Views

@@ -4,6 +4,7 @@ ghost use Rattle.std.specs.List.{All};
 ghost use Rattle.ledger.specs.Ledgers.{clock_of};
 ghost use Rattle.journal.specs.Views.{IsEntry, places, all_places, read, read_all};
 
+use crate::backwards::Backwards;
 use crate::entry::Entry;
 use actions::action::ActionRef;
 use actions::flip::Flip;
@@ -22,12 +23,12 @@ const NO_FLIP: Flip = Flip {
 // First come the actions that stand, and then those that were undone.
 #[derive(Drop)]
 pub struct Journal {
-    entries: [Entry; MAX_ENTRIES],
-    flips: [Flip; MAX_ENTRIES],
-    standing: usize,
+    pub(crate) entries: [Entry; MAX_ENTRIES],
+    pub(crate) flips: [Flip; MAX_ENTRIES],
+    pub(crate) standing: usize,
     undone: usize,
     // Places that are taken by what stands.
-    used: usize,
+    pub(crate) used: usize,
     ghost sizes: { (length entries ≡ 256) × (length flips ≡ 256) × (standing + undone ≤ 256) },
     ghost valid: { All IsEntry (take (standing + undone) entries) },
     ghost counted: { (used ≡ all_places (take standing entries)) × (all_places (take (standing + undone) entries) ≤ 256) },
@@ -84,15 +85,7 @@ impl Journal {
     pub fn last(&self) -> Option<ActionRef<'_>>
         ensures { map action_of (option_to_list result) ≡ drop (length (standing_of self.now) - 1) (standing_of self.now) }
     {
-        if self.standing == 0 {
-            return None;
-        }
-        Some(match self.entries[self.standing - 1] {
-            Entry::Step(count) => ActionRef::Step(count),
-            Entry::Edit(len) => {
-                ActionRef::Edit(&self.flips[self.used - usize::from(len)..self.used])
-            }
-        })
+        Backwards::new(self).next()
     }
 
     // The undone action that a redo makes.

@@ -1,4 +1,4 @@
-use Rattle.std.proofs.Common.{◌≡◌, ℕ, ◌+◌, ◌<◌, ◌≤◌, ◌++◌, [], ◌∷◌, length, drop, take, set, sym, ap, ◌∙◌, arith}
+use Rattle.std.proofs.Common.{◌≡◌, ℕ, ◌+◌, ◌≤◌, ◌++◌, [], ◌∷◌, drop, take, set, sym, ap, ◌∙◌, arith}
 use Rattle.actions.specs.declared.flip.Flip.{Flip}
 use Rattle.journal.proofs.Booking.{put_all, put_place}
 use Rattle.journal.proofs.Used.{used_is}

@@ -1,6 +1,6 @@
-use Rattle.std.proofs.Common.{◌≡◌, ◌+◌, ◌-◌, ◌<◌, ◌≤◌, ◌++◌, [], ◌∷◌, List, length, take, refl, sym, ap, ◌∙◌, arith}
+use Rattle.std.proofs.Common.{◌≡◌, ◌<◌, ◌++◌, [], ◌∷◌, List, length, take, refl, sym, ap, ◌∙◌, arith}
 use Rattle.std.proofs.lemmas.List.{length-take-le}
-use Rattle.actions.specs.Actions.{Action, Edit}
+use Rattle.actions.specs.Actions.{Edit}
 use Rattle.actions.specs.declared.flip.Flip.{Flip}
 use Rattle.journal.proofs.Used.{places_left}
 use Rattle.journal.proofs.open_journal.OpenJournal.close.Goals as goal

@@ -1,4 +1,4 @@
-use Rattle.std.proofs.Common.{◌+◌, ◌≤◌, arith}
+use Rattle.std.proofs.Common.{arith}
 use Rattle.journal.proofs.Used.{standing_room}
 use Rattle.journal.proofs.open_journal.OpenJournal.new.Goals as goal
 
