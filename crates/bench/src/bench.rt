@@ -1,8 +1,9 @@
 // A bench at rest.
-ghost use Rattle.std.specs.Prelude.{◌≡◌};
+ghost use Rattle.std.specs.Prelude.{◌≡◌, ◌≤◌, length, IsOk};
 ghost use Rattle.bench.specs.Benches.{map_of, start_of, ledger_of, handed};
 ghost use Rattle.bench.specs.Calls.{answered, booked_by, made_by};
 ghost use Rattle.bench.specs.Sessions.{session_map, session_start, session_ledger};
+ghost use Rattle.reverse_script.specs.Written.{ScriptWritten};
 ghost use Rattle.scripts.specs.declared.record.Record.TheVariants.{Step, Undo, Redo, Open};
 
 use crate::session::Session;
@@ -12,6 +13,8 @@ use journal::journal::Journal;
 use journal::open_journal::OpenJournal;
 use lattice::map::Map;
 use lattice::start::Start;
+use reverse_script::refusal::ScriptRefusal;
+use reverse_script::write::write_reverse_script;
 
 // What a count call answers: actions that stand, actions that were undone, the clock, the phase.
 pub type Counts = (usize, usize, i32, u8);
@@ -75,7 +78,7 @@ impl<'m, M: Map> Bench<'m, M> {
     }
 
     // Takes the latest action back.
-    #[tactic(auto, using(crate::proofs::Latest::none_latest))]
+    #[tactic(auto, using(ledger::proofs::Latest::none_latest))]
     pub fn undo(&mut self, cells: &mut [u8]) -> Result<usize, BenchRefusal>
         ensures answer { result ≡ answered (handed self.old cells.old) Undo (ledger_of self.old) }
         ensures ledger { ledger_of self.new ≡ booked_by (handed self.old cells.old) Undo (ledger_of self.old) }
@@ -109,6 +112,16 @@ impl<'m, M: Map> Bench<'m, M> {
         action.make(self.map, &mut self.start, cells);
         self.journal.step_on();
         Ok(self.journal.standing())
+    }
+
+    // Writes the script that leads home from the lattice that is held: for each action that stands, from the last to the first, a step by the negated
+    // count, or a session with the flips once more, the last one first. Answers its length.
+    pub fn reverse_script(&self, memory: &mut [u8]) -> Result<usize, ScriptRefusal>
+        ensures answer { ScriptWritten (ledger_of self.now).standing memory.old memory.new result }
+        // 7,168 bytes are always enough
+        ensures enough { 7168 ≤ length memory.old → IsOk result }
+    {
+        write_reverse_script(&self.journal, memory)
     }
 
     // Opens a session. What was undone is forgotten.

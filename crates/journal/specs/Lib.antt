@@ -1,4 +1,5 @@
 pub mod Backwards
 pub mod Journals
+pub mod Kept
 pub mod OpenJournals
 pub mod Views

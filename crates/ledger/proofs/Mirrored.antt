@@ -74,7 +74,7 @@ pub standing_mirrored : (f g : Lattice → Lattice) (led : Ledger) (l : Lattice)
 standing_mirrored f g led l = ap (all_flipped led.session) (all_made_mirrored f g led.standing l)
 
 -- a step count and its opposite
-abs_neg : (z : ℤ) → unsigned_abs (neg_ℤ z) ≡ unsigned_abs z
+pub abs_neg : (z : ℤ) → unsigned_abs (neg_ℤ z) ≡ unsigned_abs z
 abs_neg (pos zero) = refl
 abs_neg (pos (suc n)) = refl
 abs_neg (negsuc n) = refl

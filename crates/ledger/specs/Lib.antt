@@ -1,4 +1,5 @@
 pub mod Effects
+pub mod Homes
 pub mod Ledgers
 pub mod Mirrors
 pub mod Refusals

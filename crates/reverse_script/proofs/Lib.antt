@@ -1,0 +1,2 @@
+pub mod ActionsBack
+pub mod FlipsBack

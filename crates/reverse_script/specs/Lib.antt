@@ -1,0 +1,3 @@
+pub mod FlipTexts
+pub mod Refusals
+pub mod Written

@@ -1,0 +1,21 @@
+// Why a reverse script is not written.
+ghost use Rattle.std.specs.Prelude.{◌≡◌};
+ghost use Rattle.reverse_script.specs.Refusals.{script_number};
+
+use thiserror::Error;
+
+// The cause with its number, as docs/REFUSALS.md lists it.
+#[derive(Clone, Copy, PartialEq, Eq, Debug, Error)]
+pub enum ScriptRefusal {
+    #[error("the memory is too short for the script")]
+    MemoryTooShort = 30,
+}
+
+// The number of the cause.
+impl From<ScriptRefusal> for u8 {
+    ghost from_gives = { λ cause n. n ≡ script_number cause };
+
+    fn from(cause: ScriptRefusal) -> u8 {
+        cause as u8
+    }
+}
