@@ -1,0 +1,21 @@
+-- What calls answer.
+--     said a           the answer of a call that answers a
+--     told l c led     what the call c answers that is handed the cells of l; it is passed over if the state does not permit it, and open and close give only the bench
+use Rattle.std.specs.Prelude.{ℕ, Result, Ok, Err, if◌then◌else◌}
+use Rattle.any_bench.specs.declared.answer.Answer.{Answer}
+use Rattle.any_bench.specs.declared.answer.Answer.TheVariants.{PassedOver, Given, Standing, Refused}
+use Rattle.bench.specs.Calls.{answered}
+use Rattle.faults.specs.declared.run.BenchRefusal.{BenchRefusal}
+use Rattle.lattice.specs.Lattice.{Lattice}
+use Rattle.ledger.specs.Ledgers.{Ledger}
+use Rattle.ledger.specs.Refusals.{takes_cells}
+use Rattle.scripts.specs.Records.{kind_of}
+use Rattle.scripts.specs.States.{permits}
+use Rattle.scripts.specs.declared.record.Record.{Record}
+
+abbrev pub said : Result ℕ BenchRefusal → Answer
+said (Ok n) = Standing n
+said (Err e) = Refused e
+
+abbrev pub told : Lattice → Record → Ledger → Answer
+told l c led = if permits led.state (kind_of c) then (if takes_cells c then said (answered l c led) else Given) else PassedOver
