@@ -1,3 +1,4 @@
 pub mod Answers
 pub mod AnyBenches
 pub mod Calls
+pub mod Scenes

@@ -1,0 +1,31 @@
+-- A bench and its cells as values.
+--     Scene                   a ledger, and the lattice that is held
+--     scene_of b cs           those of the bench b, whose cells are cs
+--     told_at c s             what the call c answers that is handed the cells of the lattice of s
+--     after_call f g c s      what is held after it, where f and g are the two functions of the map
+--     after_calls f g s cs    what is held after the calls cs, the first one first
+use Rattle.std.specs.Prelude.{ℕ, List, fold}
+use Rattle.any_bench.specs.Answers.{told}
+use Rattle.any_bench.specs.AnyBenches.{any_ledger, any_handed}
+use Rattle.any_bench.specs.Calls.{booked_if, made_if}
+use Rattle.any_bench.specs.declared.answer.Answer.{Answer}
+use Rattle.any_bench.specs.declared.call.AnyBench.{AnyBench}
+use Rattle.lattice.specs.Lattice.{Lattice}
+use Rattle.ledger.specs.Ledgers.{Ledger}
+use Rattle.scripts.specs.declared.record.Record.{Record}
+
+pub record Scene : Type 0 where
+  pub ledger : Ledger
+  pub lattice : Lattice
+
+abbrev pub scene_of : {M : Type 0} → AnyBench M → List ℕ → Scene
+scene_of b cs = record { ledger = any_ledger b; lattice = any_handed b cs }
+
+abbrev pub told_at : Record → Scene → Answer
+told_at c s = told s.lattice c s.ledger
+
+abbrev pub after_call : (Lattice → Lattice) → (Lattice → Lattice) → Record → Scene → Scene
+after_call f g c s = record { ledger = booked_if s.lattice c s.ledger; lattice = made_if f g c s.ledger s.lattice }
+
+abbrev pub after_calls : (Lattice → Lattice) → (Lattice → Lattice) → Scene → List Record → Scene
+after_calls f g s cs = fold (λ t c. after_call f g c t) s cs

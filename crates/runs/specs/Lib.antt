@@ -1,0 +1,3 @@
+pub mod Runs
+pub mod Scenes
+pub mod Steps

@@ -1,0 +1,27 @@
+-- A run, record by record, as it is made. Here f and g are the two functions of the map.
+--     ran f g s rs                  what is held after the records rs, up to the first that is refused
+--     ran_answer f g n k s rs       what is answered where the first of rs is on line n, and k records were made before
+use Rattle.std.specs.Prelude.{ℕ, ◌+◌, List, [], ◌∷◌, Result, Ok, Err}
+use Rattle.any_bench.specs.Scenes.{Scene, told_at, after_call}
+use Rattle.any_bench.specs.declared.answer.Answer.{Answer}
+use Rattle.any_bench.specs.declared.answer.Answer.TheVariants.{Refused}
+use Rattle.faults.specs.declared.run.RunFault.{RunFault}
+use Rattle.faults.specs.declared.run.RunFault.TheVariants.{Bench}
+use Rattle.lattice.specs.Lattice.{Lattice}
+use Rattle.scripts.specs.declared.record.Record.{Record}
+
+abbrev pub unless_refused : {A : Type 0} → Answer → A → A → A
+unless_refused (Refused e) x y = y
+unless_refused _ x y = x
+
+abbrev pub ran : (Lattice → Lattice) → (Lattice → Lattice) → Scene → List Record → Scene
+ran f g s [] = s
+ran f g s (r ∷ rs) = unless_refused (told_at r s) (ran f g (after_call f g r s) rs) s
+
+abbrev pub answer_after : Answer → ℕ → Result ℕ RunFault → Result ℕ RunFault
+answer_after (Refused e) n a = Err (Bench e n)
+answer_after _ n a = a
+
+abbrev pub ran_answer : (Lattice → Lattice) → (Lattice → Lattice) → ℕ → ℕ → Scene → List Record → Result ℕ RunFault
+ran_answer f g n k s [] = Ok k
+ran_answer f g n k s (r ∷ rs) = answer_after (told_at r s) n (ran_answer f g (n + 1) (k + 1) (after_call f g r s) rs)
