@@ -17,6 +17,13 @@ impl<A> Reverse<A> {
     {
         Reverse { inner }
     }
+
+    // The map that is reversed.
+    pub fn inner(&self) -> &A
+        ensures { result.now ≡ reversed_of self.now }
+    {
+        &self.inner
+    }
 }
 
 impl<A: Map> Map for Reverse<A> {

@@ -103,7 +103,7 @@ own_mirrored w h (Call.Flip c r m) led = rw (same_entries led.standing) refl
 own_mirrored w h Call.Clear led = refl
 own_mirrored w h Call.Close led = refl
 
-same_kind : (c : Record) → kind_of (mirror_call c) ≡ kind_of c
+pub same_kind : (c : Record) → kind_of (mirror_call c) ≡ kind_of c
 same_kind (Call.Step z) = refl
 same_kind Call.Undo = refl
 same_kind Call.Redo = refl
@@ -112,7 +112,7 @@ same_kind (Call.Flip c r m) = refl
 same_kind Call.Clear = refl
 same_kind Call.Close = refl
 
-takes_mirrored : (c : Record) → takes_cells (mirror_call c) ≡ takes_cells c
+pub takes_mirrored : (c : Record) → takes_cells (mirror_call c) ≡ takes_cells c
 takes_mirrored (Call.Step z) = refl
 takes_mirrored Call.Undo = refl
 takes_mirrored Call.Redo = refl

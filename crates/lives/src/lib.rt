@@ -1,0 +1,5 @@
+// Whole lives of benches: what is held, the way back, and the mirror.
+#![tactic(auto)]
+
+pub mod event;
+pub mod calls;
