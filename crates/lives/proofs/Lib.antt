@@ -1,1 +1,6 @@
+pub mod Along
 pub mod Elsewhere
+pub mod LifeLaws
+pub mod MirrorLaws
+pub mod Pairs
+pub mod Recording

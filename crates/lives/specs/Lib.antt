@@ -1,1 +1,4 @@
 pub mod Events
+pub mod Lives
+pub mod Mirrors
+pub mod Seen

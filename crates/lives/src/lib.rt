@@ -2,4 +2,6 @@
 #![tactic(auto)]
 
 pub mod event;
+mod mirror;
+mod pair;
 pub mod calls;

@@ -1,0 +1,33 @@
+-- A whole life, by the ledger. It begins with the opening lattice l; f and g are the two functions of the map; the second memory has n bytes; es are the
+-- events so far, the first one first.
+--     life_ledger l n es          the ledger after the events
+--     life_lattice f g l n es     the lattice that is held then
+--     told_after f g l n es e     what the bench tells of one more event, e: its answer, and the count call's after it
+--     of_mirror t                 what the mirror tells where the bench tells t: the same, with the opposite clock
+--     seen_after f g l n es e     what both tell
+use Rattle.std.specs.Prelude.{ℕ, List, [], ◌∷◌, ◌++◌, fold, neg_ℤ}
+use Rattle.lattice.specs.Lattice.{Lattice}
+use Rattle.ledger.specs.Effects.{standing_for}
+use Rattle.ledger.specs.Ledgers.{Ledger, at_opening, counts}
+use Rattle.lives.specs.Events.{event_told, event_booked}
+use Rattle.lives.specs.declared.event.Event.{Event}
+use Rattle.lives.specs.declared.event.Seen.{Seen}
+use Rattle.lives.specs.declared.event.Told.{Told}
+
+abbrev pub life_ledger : Lattice → ℕ → List Event → Ledger
+life_ledger l n es = fold (λ led e. event_booked l.width l.height n e led) at_opening es
+
+abbrev pub life_lattice : (Lattice → Lattice) → (Lattice → Lattice) → Lattice → ℕ → List Event → Lattice
+life_lattice f g l n es = standing_for f g (life_ledger l n es) l
+
+abbrev pub told_after : (Lattice → Lattice) → (Lattice → Lattice) → Lattice → ℕ → List Event → Event → Told
+told_after f g l n es e = record {
+  answer = event_told l.width l.height n e (life_ledger l n es);
+  counts = counts (life_ledger l n (es ++ (e ∷ []))) (life_lattice f g l n (es ++ (e ∷ []))).phase;
+}
+
+abbrev pub of_mirror : Told → Told
+of_mirror t = record { answer = t.answer; counts = (t.counts.0, t.counts.1, neg_ℤ t.counts.2, t.counts.3) }
+
+abbrev pub seen_after : (Lattice → Lattice) → (Lattice → Lattice) → Lattice → ℕ → List Event → Event → Seen
+seen_after f g l n es e = record { bench = told_after f g l n es e; mirror = of_mirror (told_after f g l n es e) }

@@ -1,0 +1,7 @@
+-- The life of the mirror.
+--     mirror_event e     the event that the mirror is given where the bench is given e
+use Rattle.ledger.specs.Mirrors.{mirror_call}
+use Rattle.lives.specs.declared.event.Event.{Event}
+
+abbrev pub mirror_event : Event → Event
+mirror_event e = record { call = mirror_call e.call; lent = e.lent }

@@ -1,0 +1,25 @@
+// What the mirror of a bench is given.
+ghost use Rattle.std.specs.Prelude.{◌≡◌};
+ghost use Rattle.ledger.specs.Mirrors.{opposite, mirror_call};
+ghost use Rattle.lives.specs.Mirrors.{mirror_event};
+
+use crate::event::Event;
+use scripts::record::Record;
+
+// The opposite count; a count that has none in its type stays as it is.
+fn opposite(count: i32) -> i32
+    ensures { result ≡ opposite count }
+{
+    count.checked_neg().unwrap_or(count)
+}
+
+// The same event with the opposite step count.
+pub(crate) fn mirrored(event: Event) -> Event
+    ensures { result ≡ mirror_event event }
+{
+    let call = match event.call {
+        Record::Step(count) => Record::Step(opposite(count)),
+        other => other,
+    };
+    Event { call, ..event }
+}

@@ -1,0 +1,55 @@
+// A bench and its mirror, given the same events.
+ghost use Rattle.std.specs.Prelude.{◌≡◌, ℕ, List, length};
+ghost use Rattle.any_bench.specs.AnyBenches.{any_map, any_start, any_ledger, any_handed};
+ghost use Rattle.layers.specs.Parts.{reversed_of};
+ghost use Rattle.lattice.specs.Lattice.{Whole};
+ghost use Rattle.lattice.specs.Starts.{held};
+ghost use Rattle.lives.specs.Lives.{life_ledger, life_lattice};
+ghost use Rattle.lives.specs.Seen.{Recorded};
+ghost use Rattle.lives.specs.declared.event.Event.{Event as LifeEvent};
+ghost use Rattle.lives.specs.declared.event.Seen.{Seen as LifeSeen};
+
+use crate::calls::make_event;
+use crate::event::{Event, Seen};
+use crate::mirror::mirrored;
+use any_bench::call::AnyBench;
+use lattice::map::Map;
+use lattice::start::Start;
+use layers::reverse::Reverse;
+
+// Opens both and makes all events. `seen` keeps what they tell, as far as there is room.
+pub(crate) fn make_events<'m, M: Map>(
+    map: &'m Reverse<M>,
+    start: Start,
+    events: &[Event],
+    cells: &mut [u8],
+    mirror: &mut [u8],
+    second: &mut [u8],
+    seen: &mut [Seen],
+) -> (AnyBench<'m, M>, AnyBench<'m, Reverse<M>>)
+    requires whole { Whole (held start cells.old) }
+    requires copy { mirror.old ≡ cells.old }
+    ensures ledger { any_ledger result.0 ≡ life_ledger (held start cells.old) (length second.old) events.now }
+    ensures cells { any_handed result.0 cells.new ≡ life_lattice (M.forward (reversed_of map.now)) (M.backward (reversed_of map.now)) (held start cells.old) (length second.old) events.now }
+    ensures mirror { any_handed result.1 mirror.new ≡ life_lattice (M.forward (reversed_of map.now)) (M.backward (reversed_of map.now)) (held start cells.old) (length second.old) events.now }
+    ensures seen { Recorded (M.forward (reversed_of map.now)) (M.backward (reversed_of map.now)) (held start cells.old) (length second.old) events.now seen.old seen.new }
+    ensures second { second.new ≡ second.old }
+    ensures map { any_map result.0 ≡ reversed_of map.now }
+{
+    let mut bench = AnyBench::new(map.inner(), start);
+    let mut image = AnyBench::new(map, start);
+    for k in 0..events.len() {
+        let event = events[k];
+        let (next, told) = make_event(bench, event, cells, second);
+        let (next_image, mirror_told) = make_event(image, mirrored(event), mirror, second);
+        bench = next;
+        image = next_image;
+        if k < seen.len() {
+            seen[k] = Seen {
+                bench: told,
+                mirror: mirror_told,
+            };
+        }
+    }
+    (bench, image)
+}
