@@ -1,6 +1,6 @@
 -- What is known of a call that is accepted. Assumes nothing.
 use Rattle.std.proofs.Common.{◌≡◌, ℕ, zero, suc, ◌*◌, ◌<◌, ◌≤◌, ℤ, Bool, true, false, cond, nat_lt, nat_le, Some, None, Option, refl, arith, unsigned_abs}
-use Rattle.std.proofs.lemmas.Bool.{eqb-true}
+use Rattle.std.proofs.lemmas.Bool.{eqb-true, eq-eqb}
 use Rattle.std.proofs.lemmas.Bool.Decides.{nat_tests}
 use Rattle.std.specs.Prelude.{◌==◌, ◌&&◌, not}
 use Rattle.actions.specs.Flips.{flip_refusal}
@@ -84,3 +84,16 @@ full_refusal k h = rw (test_fails k 256 h) refl
 
 pub step_taken : (z : ℤ) (k : ℕ) → 0 < unsigned_abs z → unsigned_abs z ≤ 10000 → step_refusal z k ≡ if_room k
 step_taken z k some few = rw (test_passes 0 (unsigned_abs z) some, test_passes_le (unsigned_abs z) 10000 few) refl
+
+pub flip_taken : (w h c r m k : ℕ) → c < w → r < h → 0 < m → m < 256 → k < 256 → or_else (flip_refusal w h c r m) (if_room k) ≡ None
+flip_taken w h c r m k c< r< some small room =
+    let mask : m ≤ 255 = omega arith in
+    rw (test_passes c w c<, test_passes r h r<, test_passes 0 m some, test_passes_le m 255 mask, test_passes k 256 room) refl
+
+-- a call that is handed the cells of the lattice is refused for its own causes alone
+pub whole_refusal : (w h : ℕ) (c : Record) (led : Ledger) → refusal w h (w * h) c led ≡ own_refusal w h c led
+whole_refusal w h c led = rw (eq-eqb (w * h) (w * h) refl) (here (takes_cells c) (own_refusal w h c led))
+  where
+    here : (b : Bool) (o : Option BenchRefusal) → cond (b && not true) (Some Cells) o ≡ o
+    here true o = refl
+    here false o = refl

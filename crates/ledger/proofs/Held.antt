@@ -47,7 +47,7 @@ module _ (f g : Lattice → Lattice) (laws : Reversible f g) (w h : ℕ) where
       (all_made_within f g laws led.standing l (byte_masks w h led.standing s.standing) i)
 
   -- a call that is accepted leads from what the ledger before it says to what the ledger after it says
-  effect_held : (c : Record) (led : Ledger) (l : Lattice) → permits led.state (kind_of c) ≡ true → Sound w h led → Within l
+  pub effect_held : (c : Record) (led : Ledger) (l : Lattice) → permits led.state (kind_of c) ≡ true → Sound w h led → Within l
       → effect f g c led (standing_for f g led l) ≡ standing_for f g (booked c led) l
   effect_held (Call.Step z) led l may s i =
       let none = s.at_rest (is_rest StepWord led.state refl may) in

@@ -1,6 +1,7 @@
 pub mod Accepted
 pub mod Held
 pub mod HomeLaws
+pub mod HomeScripts
 pub mod Latest
 pub mod Mirrored
 pub mod MirroredSound

@@ -66,7 +66,7 @@ is_session : (k : Word) (s : State) → permits Rest k ≡ false → permits s k
 is_session k Rest other may = absurd cc
 is_session k Session other may = refl
 
-booked_sound : (w h n : ℕ) (c : Record) (led : Ledger) → permits led.state (kind_of c) ≡ true → Sound w h led → refusal w h n c led ≡ None → Sound w h (booked c led)
+pub booked_sound : (w h n : ℕ) (c : Record) (led : Ledger) → permits led.state (kind_of c) ≡ true → Sound w h led → refusal w h n c led ≡ None → Sound w h (booked c led)
 booked_sound w h n (Call.Step z) led may s e =
     let ok = step_accepted z (used led) (cells_accepted w h n (Call.Step z) led refl e).1 in
     let more = one_more led.standing (Step z) in

@@ -4,3 +4,4 @@ pub mod LifeLaws
 pub mod MirrorLaws
 pub mod Pairs
 pub mod Recording
+pub mod WaysHome

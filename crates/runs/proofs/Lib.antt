@@ -1,3 +1,5 @@
+pub mod AllAccepted
 pub mod Beginnings
+pub mod HomeRuns
 pub mod RunSteps
 pub mod WholeRuns

@@ -1,0 +1,88 @@
+-- The way back: the reverse script of what stands, run on a bench that is opened on the lattice that is held. Assumes nothing.
+use Rattle.std.proofs.Common.{◌≡◌, ℕ, ◌+◌, ◌*◌, ◌<◌, ◌≤◌, true, cond, eqb, List, [], ◌++◌, length, Some, None, Option, Ok, Err, Result, refl, sym, ap, ap₂, ◌∙◌, subst, arith}
+use Rattle.std.proofs.lemmas.Bool.{cond-true, eq-eqb}
+use Rattle.std.specs.List.{All}
+use Rattle.actions.proofs.Home.{all_made_back}
+use Rattle.actions.specs.Actions.{Action, all_made, home_of}
+use Rattle.actions.specs.Flips.{all_flipped}
+use Rattle.any_bench.specs.Scenes.{Scene, after_calls}
+use Rattle.faults.specs.Results.{◌>>=◌}
+use Rattle.faults.specs.declared.run.BenchRefusal.TheVariants.{Cells}
+use Rattle.faults.specs.declared.run.RunFault.{RunFault}
+use Rattle.faults.specs.declared.run.RunFault.TheVariants.{Bench}
+use Rattle.lattice.proofs.Wholes.{same_shape_whole}
+use Rattle.lattice.specs.Lattice.{Lattice, Whole, Within, SameShape}
+use Rattle.lattice.specs.Maps.{Reversible}
+use Rattle.ledger.proofs.Held.{byte_masks, standing_within}
+use Rattle.ledger.proofs.HomeLaws.{home_on, home_entries}
+use Rattle.ledger.proofs.HomeScripts.{home_is_script}
+use Rattle.ledger.proofs.Shapes.{standing_shape}
+use Rattle.ledger.proofs.Sound.{Sound, ActionOn, sound_at_opening}
+use Rattle.ledger.specs.Effects.{standing_for}
+use Rattle.ledger.specs.Homes.{making, home_records, home_script}
+use Rattle.ledger.specs.Ledgers.{Ledger, at_opening, entries}
+use Rattle.runs.proofs.AllAccepted.{Goes}
+use Rattle.runs.proofs.HomeRuns.{resting, actions_go}
+use Rattle.runs.specs.Runs.{first_refused, made_of, answer_of, at_rest, asked, run_answer, run_of, run_scene}
+use Rattle.scripts.proofs.ScriptLaws.{taken}
+use Rattle.scripts.specs.Judgements.{script}
+use Rattle.scripts.specs.Runs.{risen}
+use Rattle.scripts.specs.declared.record.Record.{Record}
+use Rattle.scripts.specs.declared.state.State.TheVariants.{Rest}
+
+module _ (f g : Lattice → Lattice) (laws : Reversible f g) (l : Lattice) (inside : Within l) (whole : Whole l) (led : Ledger) (s : Sound l.width l.height led) (rest : led.state ≡ Rest) where
+  -- what is held
+  abbrev here : Lattice
+  here = standing_for f g led l
+
+  shape : SameShape l here
+  shape = standing_shape f g laws l.width l.height led l s inside
+
+  few : entries led.standing ≤ 256
+  few = let room = s.room in omega arith
+
+  on : All (ActionOn here.width here.height) led.standing
+  on = let P : ℕ → ℕ → Type 0 = λ w h. All (ActionOn w h) led.standing in subst (λ w. P w here.height) (sym shape.width) (subst (P l.width) (sym shape.height) s.standing)
+
+  here_within : Within here
+  here_within = standing_within f g laws l.width l.height led l s inside
+
+  here_whole : Whole here
+  here_whole = same_shape_whole l here shape whole
+
+  pub home_read : (n : ℕ) → asked here n (home_script led.standing) ≡ Ok (home_records led.standing)
+  home_read n =
+      let wide = here_within.wide in
+      let high = here_within.high in
+      let is = taken n (home_script led.standing) (home_records led.standing) (home_is_script here.width here.height wide.1 high.1 led.standing on few) in
+      cond-true (eqb (length here.cells) (here.width * here.height)) (risen (script n (home_script led.standing))) (Err (Bench Cells 0)) (eq-eqb (length here.cells) (here.width * here.height) here_whole)
+      ∙ ap risen is
+
+  abbrev begun : Scene
+  begun = record { ledger = at_opening; lattice = here }
+
+  abbrev home : Scene
+  home = record { ledger = resting f g laws here here_within here_whole (home_of led.standing); lattice = standing_for f g (resting f g laws here here_within here_whole (home_of led.standing)) here }
+
+  all_go : Goes f g begun (home_records led.standing) home
+  all_go = actions_go f g laws here here_within here_whole (home_of led.standing) [] (home_on here.width here.height led.standing on) (sound_at_opening here.width here.height) (omega (arith, home_entries led.standing, few))
+
+  -- the run takes all records
+  pub home_answer : (n : ℕ) → run_answer f g begun n (home_script led.standing) ≡ Ok (length (home_records led.standing))
+  home_answer n =
+      ap (λ a. a >>= λ rs. answer_of n (first_refused f g begun rs) rs) (home_read n)
+      ∙ ap (λ d. answer_of n d (home_records led.standing)) all_go.none
+
+  -- and comes home
+  no_flips : here ≡ all_made f g led.standing l
+  no_flips = ap (λ q. all_flipped q (all_made f g led.standing l)) (s.at_rest rest)
+
+  home_lattice : all_made f g (home_of led.standing) here ≡ l
+  home_lattice = ap (all_made f g (home_of led.standing)) no_flips ∙ all_made_back f g laws led.standing l (byte_masks l.width l.height led.standing s.standing) inside
+
+  pub home_scene : (n : ℕ) → run_scene f g begun n (home_script led.standing) ≡ record { ledger = record { standing = home_of led.standing; undone = []; session = []; state = Rest }; lattice = l }
+  home_scene n =
+      ap (run_of f g begun) (home_read n)
+      ∙ ap (λ d. at_rest f g (after_calls f g begun (made_of d (home_records led.standing)))) all_go.none
+      ∙ ap (at_rest f g) all_go.scene
+      ∙ ap (λ m. record { ledger = record { standing = home_of led.standing; undone = []; session = []; state = Rest }; lattice = m }) home_lattice
