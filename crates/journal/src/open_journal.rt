@@ -27,6 +27,7 @@ impl OpenJournal {
     ghost use Rattle.ledger.specs.Refusals.{if_room, if_accepted};
 
     // What was undone is forgotten.
+    #[tactic(auto, using(crate::proofs::Used::standing_room))]
     pub fn new(journal: Journal) -> OpenJournal
         ensures standing { open_standing result ≡ standing_of journal }
         ensures session { session_of result ≡ [] }
