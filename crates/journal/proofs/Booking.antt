@@ -58,13 +58,13 @@ module _ (es : List Entry) (fs : List Flip) (s u : ℕ) (inside : s + u ≤ leng
         let count = count_standing es fs s u inside in
         ap length (new_all n is) ∙ length-append (take s (read_all (take (s + u) es) fs)) (read e (drop (all_places (take s es)) fs) ∷ []) ∙ omega arith
 
-    pub new_standing : take (s + 1) (read_all (take (s + 1 + 0) (set es s e)) fs) ≡ take s (read_all (take (s + u) es) fs) ++ (read e (drop (all_places (take s es)) fs) ∷ [])
-    new_standing =
-        let len = new_length (s + 1 + 0) (omega arith) in
-        take_all (s + 1) _ (omega arith) ∙ new_all (s + 1 + 0) (omega arith)
+    pub new_standing : (n : ℕ) → n ≡ s + 1 → take (s + 1) (read_all (take n (set es s e)) fs) ≡ take s (read_all (take (s + u) es) fs) ++ (read e (drop (all_places (take s es)) fs) ∷ [])
+    new_standing n is =
+        let len = new_length n is in
+        take_all (s + 1) _ (omega arith) ∙ new_all n is
 
-    pub new_undone : drop (s + 1) (read_all (take (s + 1 + 0) (set es s e)) fs) ≡ []
-    new_undone = let len = new_length (s + 1 + 0) (omega arith) in drop_all (s + 1) _ (omega arith)
+    pub new_undone : (n : ℕ) → n ≡ s + 1 → drop (s + 1) (read_all (take n (set es s e)) fs) ≡ []
+    new_undone n is = let len = new_length n is in drop_all (s + 1) _ (omega arith)
 
 -- what stands has no more places than what is kept
 pub standing_places : (es : List Entry) (fs : List Flip) (s u : ℕ) → s + u ≤ length es → all_places (take s es) ≤ all_places (take (s + u) es)

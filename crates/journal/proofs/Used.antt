@@ -1,8 +1,9 @@
 -- The places that a journal has used are the entries of what stands. Assumes nothing.
-use Rattle.std.proofs.Common.{◌≡◌, ◌-◌, ◌+◌, ◌<◌, ◌≤◌, length, sym, ◌∙◌, arith}
+use Rattle.std.proofs.Common.{◌≡◌, ◌-◌, ◌+◌, ◌<◌, ◌≤◌, [], length, sym, ap, ◌∙◌, arith}
 use Rattle.std.proofs.lemmas.List.{length-drop}
 use Rattle.journal.proofs.Booking.{standing_places, has_place, entries_standing, fewer_than_places}
-use Rattle.journal.specs.Journals.{standing_of, places_of}
+use Rattle.journal.proofs.Standing.{count_undone}
+use Rattle.journal.specs.Journals.{standing_of, undone_of, places_of}
 use Rattle.journal.specs.Views.{places, IsEntry}
 use Rattle.journal.specs.declared.entry.Entry.{Entry}
 use Rattle.journal.specs.declared.journal.Journal.{Journal}
@@ -32,3 +33,6 @@ standing_room j =
 -- the places behind those of what stands
 pub places_left : (j : Journal) → length (places_of j) ≡ 256 - entries (standing_of j)
 places_left j = let s = j.sizes in length-drop (entries (standing_of j)) j.flips ∙ omega arith
+
+pub none_left_undone : (j : Journal) → undone_of j ≡ [] → j.undone ≡ 0
+none_left_undone j none = let s = j.sizes in sym (count_undone j.entries j.flips j.standing j.undone (omega arith)) ∙ ap length none

@@ -149,6 +149,7 @@ impl Journal {
         if self.used() >= MAX_ENTRIES {
             return Err(BenchRefusal::JournalFull);
         }
+        self.forget_undone();
         self.push(Entry::Step(count));
         Ok(())
     }
@@ -160,17 +161,17 @@ impl Journal {
         self.used
     }
 
-    // The entry stands, with the places behind those that are used, and nothing is undone any more.
+    // The entry stands, with the places behind those that are used.
     pub(crate) fn push(&mut self, entry: Entry)
         requires valid { IsEntry entry }
         requires room { entries (standing_of self.old) + places entry ≤ 256 }
+        requires nothing_undone { undone_of self.old ≡ [] }
         ensures standing { standing_of self.new ≡ standing_of self.old ++ (read entry (places_of self.old) ∷ []) }
         ensures undone { undone_of self.new ≡ [] }
     {
         self.entries[self.standing] = entry;
         self.used += entry.places();
         self.standing += 1;
-        self.undone = 0;
     }
 
     // So many of the places behind those that are used.
