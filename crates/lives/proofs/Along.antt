@@ -1,7 +1,6 @@
 -- Where a bench and its mirror stand in a life, and where one more event leads them. Assumes nothing.
 --     Along f g l n es x h y i     after the events es the bench has the ledger x and holds h, the mirror has y and holds i, as the life says
-use Rattle.std.proofs.Common.{◌≡◌, ℕ, ◌*◌, ℤ, List, [], ◌∷◌, ◌++◌, neg_ℤ, length, refl, sym, ap, ap₂, ◌∙◌}
-use Rattle.any_bench.specs.declared.answer.Answer.{Answer}
+use Rattle.std.proofs.Common.{◌≡◌, ℕ, List, [], ◌∷◌, ◌++◌, ap₂, ◌∙◌}
 use Rattle.lattice.specs.Lattice.{Lattice, Within}
 use Rattle.lattice.specs.Maps.{Reversible}
 use Rattle.ledger.proofs.Mirrored.{mirrored}
@@ -13,7 +12,6 @@ use Rattle.lives.specs.Lives.{life_ledger, life_lattice, told_after, of_mirror, 
 use Rattle.lives.specs.Mirrors.{mirror_event}
 use Rattle.lives.specs.declared.event.Event.{Event}
 use Rattle.lives.specs.declared.event.Seen.{Seen}
-use Rattle.lives.specs.declared.event.Told.{Told}
 
 pub record Along (f g : Lattice → Lattice) (l : Lattice) (n : ℕ) (es : List Event) (x : Ledger) (h : Lattice) (y : Ledger) (i : Lattice) : Type 0 where
   pub ledger : x ≡ life_ledger l n es

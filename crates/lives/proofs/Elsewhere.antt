@@ -1,5 +1,5 @@
 -- A call that is handed a memory of another length changes nothing. Assumes nothing.
-use Rattle.std.proofs.Common.{◌≡◌, ◌≢◌, ℕ, ◌*◌, min, Bool, true, false, cond, eqb, List, length, Some, refl, sym, ap, ◌∙◌}
+use Rattle.std.proofs.Common.{◌≡◌, ℕ, ◌*◌, min, Bool, true, false, cond, List, length, Some, refl, sym, ap, ◌∙◌}
 use Rattle.std.proofs.lemmas.Bool.{ne_eqb}
 use Rattle.any_bench.specs.Calls.{booked_if, made_if}
 use Rattle.faults.specs.declared.run.BenchRefusal.TheVariants.{Cells}
@@ -8,7 +8,7 @@ use Rattle.lattice.specs.Starts.{held}
 use Rattle.lattice.specs.declared.start.Start.{Start}
 use Rattle.ledger.specs.Effects.{effect}
 use Rattle.ledger.specs.Ledgers.{Ledger, booked}
-use Rattle.ledger.specs.Refusals.{own_refusal, takes_cells, refusal, if_accepted}
+use Rattle.ledger.specs.Refusals.{takes_cells, refusal, if_accepted}
 use Rattle.lives.specs.Events.{lent_count, handed, is_call, event_made}
 use Rattle.lives.specs.declared.event.Event.{Event}
 use Rattle.lives.specs.declared.event.Lent.TheVariants.{Part}

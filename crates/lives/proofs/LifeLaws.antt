@@ -1,28 +1,19 @@
 -- An event leads a bench and its mirror from what the ledger says to what it says then. Assumes nothing.
-use Rattle.std.proofs.Common.{◌≡◌, ℕ, ◌*◌, min, Bool, true, false, cond, eqb, List, [], ◌∷◌, ◌++◌, length, map, fold, Some, None, Option, neg_ℤ, refl, sym, ap, ap₂, ◌∙◌, subst}
-use Rattle.std.proofs.lemmas.List.{length-map}
+use Rattle.std.proofs.Common.{◌≡◌, ℕ, Bool, true, false, cond, List, [], ◌∷◌, ◌++◌, fold, Option, refl, ap₂, ◌∙◌}
 use Rattle.std.proofs.lemmas.List.Sums.{fold_push}
-use Rattle.std.specs.Prelude.{◌&&◌, ◌==◌, not}
-use Rattle.any_bench.specs.Answers.{said}
-use Rattle.any_bench.specs.declared.answer.Answer.{Answer}
-use Rattle.any_bench.specs.declared.answer.Answer.TheVariants.{PassedOver, Given}
+use Rattle.std.specs.Prelude.{◌&&◌}
 use Rattle.faults.specs.declared.run.BenchRefusal.{BenchRefusal}
 use Rattle.lattice.specs.Lattice.{Lattice, Within, SameShape}
 use Rattle.lattice.specs.Maps.{Reversible}
-use Rattle.ledger.proofs.Held.{standing_within, moved_held}
-use Rattle.ledger.proofs.Mirrored.{mirror_action, mirrored, neg_clock, standing_mirrored, same_kind, takes_mirrored, after_mirrored, answer_mirrored}
-use Rattle.ledger.proofs.MirroredSound.{mirrored_sound, reversed_laws}
+use Rattle.ledger.proofs.Held.{moved_held}
 use Rattle.ledger.proofs.Shapes.{standing_shape}
 use Rattle.ledger.proofs.Sound.{Sound, sound_at_opening, after_sound}
 use Rattle.ledger.specs.Effects.{effect, standing_for}
-use Rattle.ledger.specs.Ledgers.{Ledger, at_opening, booked, counts}
-use Rattle.ledger.specs.Mirrors.{mirror_call}
-use Rattle.ledger.specs.Refusals.{takes_cells, refusal, if_accepted, answer, after}
-use Rattle.lives.specs.Events.{lent_count, is_part, handed, is_call, event_told, event_booked, event_made}
-use Rattle.lives.specs.Lives.{life_ledger, life_lattice}
+use Rattle.ledger.specs.Ledgers.{Ledger, at_opening, booked}
+use Rattle.ledger.specs.Refusals.{refusal, if_accepted, after}
+use Rattle.lives.specs.Events.{handed, is_call, event_booked, event_made}
+use Rattle.lives.specs.Lives.{life_ledger}
 use Rattle.lives.specs.declared.event.Event.{Event}
-use Rattle.scripts.specs.Records.{kind_of}
-use Rattle.scripts.specs.States.{permits}
 
 both : (a b : Bool) → (a && b) ≡ true → a ≡ true
 both true b h = refl

@@ -1,9 +1,8 @@
 -- The mirror goes along with the bench. Assumes nothing.
-use Rattle.std.proofs.Common.{◌≡◌, ℕ, ◌*◌, Bool, true, false, cond, eqb, List, [], ◌∷◌, ◌++◌, length, map, neg_ℤ, ℤ, refl, sym, ap, ap₂, ◌∙◌}
+use Rattle.std.proofs.Common.{◌≡◌, ℕ, ◌*◌, Bool, true, false, cond, length, neg_ℤ, refl, sym, ap, ap₂, ◌∙◌}
 use Rattle.std.proofs.lemmas.List.{length-map}
 use Rattle.std.specs.Prelude.{◌&&◌, ◌==◌, not}
 use Rattle.any_bench.specs.Answers.{said}
-use Rattle.any_bench.specs.declared.answer.Answer.{Answer}
 use Rattle.any_bench.specs.declared.answer.Answer.TheVariants.{PassedOver, Given}
 use Rattle.lattice.specs.Lattice.{Lattice, Within}
 use Rattle.lattice.specs.Maps.{Reversible}
@@ -18,7 +17,6 @@ use Rattle.lives.proofs.LifeLaws.{event_held}
 use Rattle.lives.specs.Events.{is_part, handed, is_call, event_told, event_booked, event_made}
 use Rattle.lives.specs.Mirrors.{mirror_event}
 use Rattle.lives.specs.declared.event.Event.{Event}
-use Rattle.scripts.specs.Records.{kind_of}
 use Rattle.scripts.specs.States.{permits}
 
 module _ (w h n : ℕ) (e : Event) (led : Ledger) where

@@ -1,5 +1,5 @@
 -- One more event of a bench and of its mirror. Assumes nothing.
-use Rattle.std.proofs.Common.{◌≡◌, ◌≢◌, ℕ, ◌+◌, ◌*◌, ◌<◌, ◌≤◌, List, [], ◌∷◌, ◌++◌, length, take, set, get_or, neg_ℤ, ℤ, Some, None, refl, sym, ap, ap₂, ◌∙◌, subst, arith, ⊎_elim}
+use Rattle.std.proofs.Common.{◌≡◌, ℕ, List, [], ◌∷◌, ◌++◌, ℤ, sym, ap, ap₂, ◌∙◌, subst}
 use Rattle.any_bench.specs.declared.answer.Answer.{Answer}
 use Rattle.lattice.proofs.Wholes.{same_shape_whole}
 use Rattle.lattice.specs.Lattice.{Lattice, Whole, Within, SameShape}
@@ -7,14 +7,13 @@ use Rattle.lattice.specs.Maps.{Reversible}
 use Rattle.ledger.proofs.Mirrored.{mirrored}
 use Rattle.ledger.proofs.Shapes.{standing_shape}
 use Rattle.ledger.specs.Effects.{standing_for}
-use Rattle.ledger.specs.Ledgers.{Ledger, counts}
+use Rattle.ledger.specs.Ledgers.{Ledger}
 use Rattle.lives.proofs.LifeLaws.{life_sound, life_more, event_held}
-use Rattle.lives.proofs.MirrorLaws.{mirror_told, mirror_booked, mirror_counts, mirror_held}
+use Rattle.lives.proofs.MirrorLaws.{mirror_told, mirror_booked, mirror_held}
 use Rattle.lives.specs.Events.{event_told, event_booked, event_made}
-use Rattle.lives.specs.Lives.{life_ledger, life_lattice, told_after, of_mirror, seen_after}
+use Rattle.lives.specs.Lives.{life_ledger, life_lattice}
 use Rattle.lives.specs.Mirrors.{mirror_event}
 use Rattle.lives.specs.declared.event.Event.{Event}
-use Rattle.lives.specs.declared.event.Seen.{Seen}
 use Rattle.lives.specs.declared.event.Told.{Told}
 
 module _ (f g : Lattice → Lattice) (laws : Reversible f g) (l : Lattice) (inside : Within l) (n : ℕ) (es : List Event) where

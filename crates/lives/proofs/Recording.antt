@@ -1,9 +1,9 @@
 -- One more event that is recorded. Assumes nothing.
-use Rattle.std.proofs.Common.{◌≡◌, ◌≢◌, ℕ, zero, suc, ◌+◌, ◌<◌, ◌≤◌, List, [], ◌∷◌, ◌++◌, length, take, set, get_or, Some, None, refl, sym, ap, ap₂, ◌∙◌, subst, arith, ⊎_elim}
+use Rattle.std.proofs.Common.{◌≡◌, ℕ, zero, suc, ◌+◌, ◌<◌, ◌≤◌, List, [], ◌∷◌, ◌++◌, length, take, set, get_or, Some, refl, sym, ap, ap₂, ◌∙◌, arith, ⊎_elim}
 use Rattle.std.proofs.lemmas.Bool.{cases_lt, cases_eq}
 use Rattle.std.proofs.lemmas.List.{length-append, length-set, get_or-set_same, get_or-set_other, take-append-le, take_all}
 use Rattle.std.proofs.lemmas.Option.{slice_get_past}
-use Rattle.std.specs.Prelude.{slice_get, slice_index_or}
+use Rattle.std.specs.Prelude.{slice_get}
 use Rattle.lattice.specs.Lattice.{Lattice}
 use Rattle.lives.specs.Lives.{seen_after}
 use Rattle.lives.specs.Seen.{Recorded}
@@ -33,9 +33,9 @@ module _ (f g : Lattice → Lattice) (l : Lattice) (n : ℕ) where
     recorded_past past = record {
       count = so_far.count;
       told = λ k x s k< is.
-        let count = so_far.count in
-        let before : k < length es = omega arith in
-        so_far.told k x s k< (sym (get_before es e k before) ∙ is) ∙ ap (λ t. seen_after f g l n t x) (sym (take-append-le k es (e ∷ []) (omega arith)));
+          let count = so_far.count in
+          let before : k < length es = omega arith in
+          so_far.told k x s k< (sym (get_before es e k before) ∙ is) ∙ ap (λ t. seen_after f g l n t x) (sym (take-append-le k es (e ∷ []) (omega arith)));
       others = λ k s behind. let a = len in so_far.others k s (omega arith);
     }
 
@@ -45,8 +45,8 @@ module _ (f g : Lattice → Lattice) (l : Lattice) (n : ℕ) where
       count = length-set now (length es) (seen_after f g l n es e) ∙ so_far.count;
       told = λ k x s k< is. ⊎_elim (before k x s k< is) (at k x s k< is) (cases_lt k (length es));
       others = λ k s behind.
-        let a = len in
-        get_or-set_other now (length es) k (seen_after f g l n es e) s (λ same. let b = ap (λ i. i) same in omega arith) ∙ so_far.others k s (omega arith);
+          let a = len in
+          get_or-set_other now (length es) k (seen_after f g l n es e) s (λ same. let b = ap (λ i. i) same in omega arith) ∙ so_far.others k s (omega arith);
     }
       where
         before : (k : ℕ) (x : Event) (s : Seen) → k < length old → slice_get (es ++ (e ∷ [])) k ≡ Some x → k < length es → get_or (set now (length es) (seen_after f g l n es e)) k s ≡ seen_after f g l n (take k (es ++ (e ∷ []))) x

@@ -1,5 +1,5 @@
 -- The way back: the reverse script of what stands, run on a bench that is opened on the lattice that is held. Assumes nothing.
-use Rattle.std.proofs.Common.{◌≡◌, ℕ, ◌+◌, ◌*◌, ◌<◌, ◌≤◌, true, cond, eqb, List, [], ◌++◌, length, Some, None, Option, Ok, Err, Result, refl, sym, ap, ap₂, ◌∙◌, subst, arith}
+use Rattle.std.proofs.Common.{◌≡◌, ℕ, ◌*◌, ◌≤◌, eqb, neg_ℤ, List, [], length, Ok, Err, sym, ap, ap₂, ◌∙◌, subst, arith}
 use Rattle.std.proofs.lemmas.Bool.{cond-true, eq-eqb}
 use Rattle.std.specs.List.{All}
 use Rattle.actions.proofs.Home.{all_made_back}
@@ -8,26 +8,24 @@ use Rattle.actions.specs.Flips.{all_flipped}
 use Rattle.any_bench.specs.Scenes.{Scene, after_calls}
 use Rattle.faults.specs.Results.{◌>>=◌}
 use Rattle.faults.specs.declared.run.BenchRefusal.TheVariants.{Cells}
-use Rattle.faults.specs.declared.run.RunFault.{RunFault}
 use Rattle.faults.specs.declared.run.RunFault.TheVariants.{Bench}
 use Rattle.lattice.proofs.Wholes.{same_shape_whole}
 use Rattle.lattice.specs.Lattice.{Lattice, Whole, Within, SameShape}
 use Rattle.lattice.specs.Maps.{Reversible}
 use Rattle.ledger.proofs.Held.{byte_masks, standing_within}
-use Rattle.ledger.proofs.HomeLaws.{home_on, home_entries}
+use Rattle.ledger.proofs.HomeLaws.{home_on, home_length, home_entries, home_clock}
 use Rattle.ledger.proofs.HomeScripts.{home_is_script}
 use Rattle.ledger.proofs.Shapes.{standing_shape}
 use Rattle.ledger.proofs.Sound.{Sound, ActionOn, sound_at_opening}
 use Rattle.ledger.specs.Effects.{standing_for}
-use Rattle.ledger.specs.Homes.{making, home_records, home_script}
-use Rattle.ledger.specs.Ledgers.{Ledger, at_opening, entries}
+use Rattle.ledger.specs.Homes.{home_records, home_script}
+use Rattle.ledger.specs.Ledgers.{Ledger, at_opening, entries, clock_of, counts}
 use Rattle.runs.proofs.AllAccepted.{Goes}
 use Rattle.runs.proofs.HomeRuns.{resting, actions_go}
 use Rattle.runs.specs.Runs.{first_refused, made_of, answer_of, at_rest, asked, run_answer, run_of, run_scene}
 use Rattle.scripts.proofs.ScriptLaws.{taken}
 use Rattle.scripts.specs.Judgements.{script}
 use Rattle.scripts.specs.Runs.{risen}
-use Rattle.scripts.specs.declared.record.Record.{Record}
 use Rattle.scripts.specs.declared.state.State.TheVariants.{Rest}
 
 module _ (f g : Lattice → Lattice) (laws : Reversible f g) (l : Lattice) (inside : Within l) (whole : Whole l) (led : Ledger) (s : Sound l.width l.height led) (rest : led.state ≡ Rest) where
@@ -86,3 +84,13 @@ module _ (f g : Lattice → Lattice) (laws : Reversible f g) (l : Lattice) (insi
       ∙ ap (λ d. at_rest f g (after_calls f g begun (made_of d (home_records led.standing)))) all_go.none
       ∙ ap (at_rest f g) all_go.scene
       ∙ ap (λ m. record { ledger = record { standing = home_of led.standing; undone = []; session = []; state = Rest }; lattice = m }) home_lattice
+
+-- the third bench begins with what is held
+pub begins : (x : Ledger) (h h' : Lattice) → x ≡ at_opening → h ≡ h' → ◌≡◌ {A = Scene} (record { ledger = x; lattice = h }) (record { ledger = at_opening; lattice = h' })
+begins x h h' a b = ap₂ (λ y m. record { ledger = y; lattice = m }) a b
+
+pub counts_home : (acts : List Action) (p : ℕ) → counts (record { standing = home_of acts; undone = []; session = []; state = Rest }) p ≡ (length acts, 0, neg_ℤ (clock_of acts), p)
+counts_home acts p =
+    let n = home_length acts in
+    let c = home_clock acts in
+    λ i. (n i, 0, c i, p)

@@ -2,3 +2,4 @@ pub mod Events
 pub mod Lives
 pub mod Mirrors
 pub mod Seen
+pub mod WaysBack

@@ -1,7 +1,9 @@
 // Whole lives of benches: what is held, the way back, and the mirror.
 #![tactic(auto)]
 
+mod calls;
 pub mod event;
 mod mirror;
+pub mod outcome;
 mod pair;
-pub mod calls;
+mod way_back;

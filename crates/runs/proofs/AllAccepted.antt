@@ -1,6 +1,6 @@
 -- Records of which none is refused. Assumes nothing.
 --     Goes f g s rs t     from what is held as s the records rs lead to t, and all are accepted
-use Rattle.std.proofs.Common.{◌≡◌, ℕ, suc, List, [], ◌∷◌, ◌++◌, Some, None, Option, refl, sym, ap, ◌∙◌, subst}
+use Rattle.std.proofs.Common.{◌≡◌, ℕ, List, [], ◌∷◌, None, Option, refl, ap, ◌∙◌}
 use Rattle.any_bench.specs.Scenes.{Scene, told_at, after_call, after_calls}
 use Rattle.any_bench.specs.declared.answer.Answer.{Answer}
 use Rattle.any_bench.specs.declared.answer.Answer.TheVariants.{PassedOver, Given, Standing, Refused}

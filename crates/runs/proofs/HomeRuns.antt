@@ -1,5 +1,5 @@
 -- The records that make given actions are accepted by a bench that has room for them, and do make them. Assumes nothing.
-use Rattle.std.proofs.Common.{◌≡◌, ℕ, zero, suc, ◌+◌, ◌*◌, ◌<◌, ◌≤◌, Bool, true, false, cond, ℤ, List, [], ◌∷◌, ◌++◌, length, map, flat_map, Some, None, Option, Ok, Err, Result, refl, sym, ap, ap₂, ◌∙◌, subst, arith}
+use Rattle.std.proofs.Common.{◌≡◌, ℕ, ◌+◌, ◌*◌, ◌<◌, ◌≤◌, Bool, true, false, cond, List, [], ◌∷◌, ◌++◌, length, map, flat_map, Some, None, Option, refl, sym, ap, ap₂, ◌∙◌, subst, arith}
 use Rattle.std.proofs.lemmas.List.{append_assoc, append-nil, length-append}
 use Rattle.std.proofs.lemmas.List.Elements.{All-head, All-tail, All-push}
 use Rattle.std.proofs.lemmas.List.Sums.{sum_by-cons, sum_by-append}
@@ -7,10 +7,9 @@ use Rattle.std.specs.List.{All}
 use Rattle.actions.specs.Answers.{unless}
 use Rattle.actions.specs.Actions.{Action, Step, Edit}
 use Rattle.actions.specs.declared.flip.Flip.{Flip}
-use Rattle.any_bench.specs.Answers.{said, told}
-use Rattle.any_bench.specs.Scenes.{Scene, told_at, after_call, after_calls}
-use Rattle.any_bench.specs.declared.answer.Answer.{Answer}
-use Rattle.any_bench.specs.declared.answer.Answer.TheVariants.{PassedOver, Given, Standing, Refused}
+use Rattle.any_bench.specs.Answers.{said}
+use Rattle.any_bench.specs.Scenes.{Scene, told_at, after_call}
+use Rattle.any_bench.specs.declared.answer.Answer.TheVariants.{PassedOver, Given, Refused}
 use Rattle.faults.specs.declared.run.BenchRefusal.{BenchRefusal}
 use Rattle.lattice.specs.Lattice.{Lattice, Whole, Within, SameShape}
 use Rattle.lattice.specs.Maps.{Reversible}
@@ -20,14 +19,13 @@ use Rattle.ledger.proofs.Shapes.{standing_shape}
 use Rattle.ledger.proofs.Sound.{Sound, FlipOn, ActionOn, booked_sound}
 use Rattle.ledger.specs.Effects.{effect, standing_for}
 use Rattle.ledger.specs.Homes.{flip_record, making}
-use Rattle.ledger.specs.Ledgers.{Ledger, size, entries, used, edit_of, booked}
+use Rattle.ledger.specs.Ledgers.{Ledger, size, entries, edit_of, booked}
 use Rattle.ledger.specs.Refusals.{own_refusal, takes_cells, refusal, if_accepted}
 use Rattle.runs.proofs.AllAccepted.{Goes, goes_nil, goes_cons}
 use Rattle.scripts.specs.Records.{kind_of}
 use Rattle.scripts.specs.States.{permits}
 use Rattle.scripts.specs.declared.record.Record.{Record}
 use Rattle.scripts.specs.declared.record.Record.TheVariants as Call
-use Rattle.scripts.specs.declared.state.State.{State}
 use Rattle.scripts.specs.declared.state.State.TheVariants.{Rest, Session}
 
 -- a permitted call with no cause of refusal is not refused
@@ -64,8 +62,8 @@ module _ (f g : Lattice → Lattice) (laws : Reversible f g) (l : Lattice) (insi
     moved_to =
         let m = standing_for f g led l in
         ap₂ (λ x y. record { ledger = x; lattice = y })
-          (accepted (permits led.state (kind_of c)) (refusal m.width m.height (length m.cells) c led) (booked c led) led may none)
-          (accepted (permits led.state (kind_of c)) (refusal m.width m.height (length m.cells) c led) (effect f g c led m) m may none ∙ effect_held f g laws l.width l.height c led l may s inside)
+        (accepted (permits led.state (kind_of c)) (refusal m.width m.height (length m.cells) c led) (booked c led) led may none)
+        (accepted (permits led.state (kind_of c)) (refusal m.width m.height (length m.cells) c led) (effect f g c led m) m may none ∙ effect_held f g laws l.width l.height c led l may s inside)
 
     pub sound_then : Sound l.width l.height (booked c led)
     sound_then = booked_sound l.width l.height (l.width * l.height) c led may s (whole_refusal l.width l.height c led ∙ own)
@@ -87,8 +85,8 @@ module _ (f g : Lattice → Lattice) (laws : Reversible f g) (l : Lattice) (insi
       let own = flip_taken l.width l.height x.col x.row x.mask (entries acts + length made) first.0 first.1 first.2 first.3 (omega arith) in
       let len = length-append made (x ∷ []) in
       one_goes (flip_record x) (editing acts made) refl s own (map flip_record fs ++ rs) u
-        (flips_go fs acts (made ++ (x ∷ [])) (All-tail (FlipOn l.width l.height) x fs on) (sound_then (flip_record x) (editing acts made) refl s own) (omega arith) rs u
-          (subst (λ q. Goes f g (at (editing acts q)) rs u) (sym (append_assoc made (x ∷ []) fs)) rest))
+      (flips_go fs acts (made ++ (x ∷ [])) (All-tail (FlipOn l.width l.height) x fs on) (sound_then (flip_record x) (editing acts made) refl s own) (omega arith) rs u
+      (subst (λ q. Goes f g (at (editing acts q)) rs u) (sym (append_assoc made (x ∷ []) fs)) rest))
 
   edit_is : (fs : List Flip) → 0 < length fs → edit_of fs ≡ Edit fs ∷ []
   edit_is [] some = absurd (omega arith)
@@ -125,5 +123,5 @@ module _ (f g : Lattice → Lattice) (laws : Reversible f g) (l : Lattice) (insi
         in_session = λ i. absurd cc;
       } in
       action_goes a done first s (omega arith) (flat_map making acts) (at (resting (done ++ (a ∷ acts))))
-        (subst (λ q. Goes f g (at (resting (done ++ (a ∷ [])))) (flat_map making acts) (at (resting q))) (append_assoc done (a ∷ []) acts)
-          (actions_go acts (done ++ (a ∷ [])) (All-tail (ActionOn l.width l.height) a acts on) next (omega arith)))
+      (subst (λ q. Goes f g (at (resting (done ++ (a ∷ [])))) (flat_map making acts) (at (resting q))) (append_assoc done (a ∷ []) acts)
+      (actions_go acts (done ++ (a ∷ [])) (All-tail (ActionOn l.width l.height) a acts on) next (omega arith)))

@@ -1,9 +1,8 @@
-use Rattle.std.proofs.Common.{◌≡◌, ℕ, ◌+◌, ◌<◌, ◌≤◌, pos, List, ◌∷◌, [], ◌++◌, length, take, set, get_or, w8, Fits, sym, ap, ap₂, ◌∙◌, subst, arith, rules}
+use Rattle.std.proofs.Common.{◌≡◌, ℕ, pos, List, ◌∷◌, [], ◌++◌, length, take, set, get_or, w8, Fits, sym, ap, ap₂, ◌∙◌, subst, arith, rules}
 use Rattle.std.proofs.lemmas.List.{take_more, length-take-le}
-use Rattle.any_bench.specs.AnyBenches.{any_map, any_start, any_ledger, any_handed}
+use Rattle.any_bench.specs.AnyBenches.{any_ledger, any_handed}
 use Rattle.lattice.proofs.Starts.{held_within}
-use Rattle.lattice.specs.Lattice.{Within}
-use Rattle.lattice.specs.Starts.{held, phase_of}
+use Rattle.lattice.specs.Starts.{held}
 use Rattle.layers.specs.Parts.{reversed_of}
 use Rattle.lives.proofs.Along.{Along, along_more, seen_more}
 use Rattle.lives.proofs.Pairs.{life_whole}
@@ -24,7 +23,7 @@ make_event-requires g c =
     let inside = held_within c.args.start c.args.cells.now (λ k. (bytes k).fits) in
     let i = c.loop-k.invariant in
     life_whole (g.M.Map.forward m) (g.M.Map.backward m) (g.met.M.Map.laws m) (held c.args.start c.args.cells.now) inside (length c.args.second.now) (take c.loop-k.k c.args.events.now) c.requires.whole
-      (any_handed c.loop-k.bench c.loop-k.cells) i.3.lattice
+    (any_handed c.loop-k.bench c.loop-k.cells) i.3.lattice
 
 pub make_event-requires-in-loop-k : goal.make_event-requires-in-loop-k
 make_event-requires-in-loop-k g c =
@@ -33,7 +32,7 @@ make_event-requires-in-loop-k g c =
     let inside = held_within c.args.start c.args.cells.now (λ k. (bytes k).fits) in
     let i = c.loop-k.invariant in
     life_whole (g.M.Map.forward m) (g.M.Map.backward m) (g.met.M.Map.laws m) (held c.args.start c.args.cells.now) inside (length c.args.second.now) (take c.loop-k.k c.args.events.now) c.requires.whole
-      (any_handed c.loop-k.image c.loop-k.mirror) i.3.image_lattice
+    (any_handed c.loop-k.image c.loop-k.mirror) i.3.image_lattice
 
 pub loop-k-preserved : goal.loop-k-preserved
 loop-k-preserved g c =
@@ -77,6 +76,6 @@ loop-k-preserved g c =
           let here = recorded_here (F m) (G m) l n es e c.args.seen.now c.loop-k.seen i.4 (omega (arith, w.if-k-seen.true, len)) in
           subst (kept (es ++ (e ∷ []))) (ap₂ (λ z a. set c.loop-k.seen z a) len (sym both) ∙ sym w.seen-is) here
       | else-k-seen w ↦ subst (kept (es ++ (e ∷ []))) (sym w.seen-is) (recorded_past (F m) (G m) l n es e c.args.seen.now c.loop-k.seen i.4 (omega (arith, w.if-k-seen.false, len)))
-      ]
+    ]
     in
     (r.map ∙ i.0, t.map ∙ i.1, t.second ∙ r.second ∙ i.2, subst P more next, subst (λ z. kept z c.if-k-seen.seen) more recorded)

@@ -11,5 +11,5 @@ abbrev pub invariant-loop-k : goal.invariant-loop-k
 invariant-loop-k g l =
     (any_map l.bench ≡ reversed_of l.map) × (any_map l.image ≡ l.map) × (l.second ≡ l.initial.second)
     × Along (g.M.Map.forward (reversed_of l.map)) (g.M.Map.backward (reversed_of l.map)) (held l.fn.start l.initial.cells) (length l.initial.second) (take l.k l.events)
-        (any_ledger l.bench) (any_handed l.bench l.cells) (any_ledger l.image) (any_handed l.image l.mirror)
+    (any_ledger l.bench) (any_handed l.bench l.cells) (any_ledger l.image) (any_handed l.image l.mirror)
     × Recorded (g.M.Map.forward (reversed_of l.map)) (g.M.Map.backward (reversed_of l.map)) (held l.fn.start l.initial.cells) (length l.initial.second) (take l.k l.events) l.initial.seen l.seen

@@ -1,0 +1,58 @@
+use Rattle.std.proofs.Common.{◌≡◌, [], length, take, drop, Ok, refl, sym, ap, ap₂, ◌∙◌, subst}
+use Rattle.std.proofs.lemmas.List.{take_at}
+use Rattle.actions.specs.Actions.{home_of}
+use Rattle.any_bench.specs.AnyBenches.{any_ledger, any_handed}
+use Rattle.bench.specs.Benches.{ledger_of, handed}
+use Rattle.lattice.specs.Starts.{held}
+use Rattle.ledger.proofs.Sound.{Sound}
+use Rattle.ledger.specs.Effects.{standing_for}
+use Rattle.ledger.specs.Homes.{home_records, home_script}
+use Rattle.ledger.specs.Ledgers.{at_opening, counts}
+use Rattle.lives.proofs.WaysHome.{home_answer, home_scene, begins, counts_home}
+use Rattle.lives.proofs.way_back.go_back.Goals as goal
+use Rattle.lives.specs.WaysBack.{Home}
+use Rattle.runs.specs.Runs.{run_answer, run_scene}
+use Rattle.runs.specs.Scenes.{rest_scene}
+use Rattle.scripts.specs.declared.state.State.TheVariants.{Rest}
+
+pub returns : goal.returns
+returns g c l within whole sound held_is =
+    let F = g.M.Map.forward in
+    let G = g.M.Map.backward in
+    let m = c.args.map.now in
+    let laws = g.met.M.Map.laws m in
+    let b = c.in-Rest.bench in
+    let led = ledger_of b in
+    let same : any_ledger c.args.bench ≡ led = ap any_ledger c.in-Rest.is in
+    let sound' : Sound l.width l.height led = subst (Sound l.width l.height) same sound in
+    let here : handed b c.args.cells.now ≡ standing_for (F m) (G m) led l = ap (λ x. any_handed x c.args.cells.now) (sym c.in-Rest.is) ∙ held_is ∙ ap (λ x. standing_for (F m) (G m) x l) same in
+    let w = c.in-Ok.ensures.answer in
+    let n = c.new.ensures in
+    let r = c.run-answer.ensures in
+    let third = c.run-answer.result.0 in
+    let nb = c.new.result in
+    let copy = c.copy_from_slice.new.self in
+    let text = take c.in-Ok.len c.reverse_script.new.memory in
+    let hs = home_script led.standing in
+    let text_is : text ≡ hs = ap (take c.in-Ok.len) w.2 ∙ take_at hs (drop c.in-Ok.len c.args.script.now) c.in-Ok.len (sym w.0) in
+    let first : rest_scene nb copy ≡ record { ledger = at_opening; lattice = standing_for (F m) (G m) led l } =
+    begins (ledger_of nb) (handed nb copy) (standing_for (F m) (G m) led l) n.ledger (ap₂ held (n.start ∙ c.start.ensures) c.copy_from_slice.ensures.after ∙ here)
+    in
+    let answer : c.run-answer.result.1 ≡ Ok (length (home_records led.standing)) =
+    r.answer ∙ ap (λ x. run_answer (F x) (G x) (rest_scene nb copy) 1 text) n.map ∙ ap₂ (λ x y. run_answer (F m) (G m) x 1 y) first text_is ∙ home_answer (F m) (G m) laws l within whole led sound' refl 1
+    in
+    let scene : rest_scene third c.run-answer.new.cells ≡ record { ledger = record { standing = home_of led.standing; undone = []; session = []; state = Rest }; lattice = l } =
+    r.scene ∙ ap (λ x. run_scene (F x) (G x) (rest_scene nb copy) 1 text) n.map ∙ ap₂ (λ x y. run_scene (F m) (G m) x 1 y) first text_is ∙ home_scene (F m) (G m) laws l within whole led sound' refl 1
+    in
+    let lattice : handed third c.run-answer.new.cells ≡ l = ap (λ x. x.lattice) scene in
+    let ledger = ap (λ x. x.ledger) scene in
+    let is_home : Home l led c.args.script.now c.reverse_script.new.memory c.run-answer.new.cells (record { script_len = c.in-Ok.len; answer = c.run-answer.result.1; start = c.start-2.result; counts = c.counts.result }) = record {
+      rests = refl;
+      len = w.0;
+      room = w.1;
+      script = w.2;
+      answer = answer;
+      opening = ap (λ x. held x c.run-answer.new.cells) c.start-2.ensures ∙ lattice;
+      counts = c.counts.ensures ∙ ap₂ (λ x y. counts x y.phase) ledger lattice ∙ counts_home led.standing l.phase;
+    } in
+    subst (λ x. Home l x c.args.script.now c.reverse_script.new.memory c.run-answer.new.cells (record { script_len = c.in-Ok.len; answer = c.run-answer.result.1; start = c.start-2.result; counts = c.counts.result })) (sym same) is_home
