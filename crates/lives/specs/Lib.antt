@@ -1,4 +1,5 @@
 pub mod Events
+pub mod Laws
 pub mod Lives
 pub mod Mirrors
 pub mod Seen

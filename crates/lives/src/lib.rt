@@ -3,6 +3,8 @@
 
 mod calls;
 pub mod event;
+pub mod life;
+pub mod memories;
 mod mirror;
 pub mod outcome;
 mod pair;
