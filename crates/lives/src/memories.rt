@@ -1,6 +1,7 @@
 // The memories of a life.
 use crate::event::Seen;
 
+#[derive(Drop)]
 pub struct Memories<'m> {
     // The cells of the bench; at its opening, those of the opening lattice.
     pub cells: &'m mut [u8],

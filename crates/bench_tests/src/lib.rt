@@ -1,0 +1,17 @@
+// Examples of lives of a bench, at the edges.
+#![tactic(auto)]
+
+#[cfg(test)]
+mod another_memory;
+#[cfg(test)]
+mod journal_full;
+#[cfg(test)]
+mod longest_script;
+#[cfg(test)]
+mod runs;
+#[cfg(test)]
+mod sessions;
+#[cfg(test)]
+mod steps;
+#[cfg(test)]
+mod whole_lives;
