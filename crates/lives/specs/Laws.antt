@@ -29,7 +29,7 @@ pub record Lived (f g : Lattice → Lattice) (s : Start) (es : List Event) (old 
   pub mirror : held o.mirror_start new.mirror.now ≡ life_lattice f g (opening s old) (other old) es
   -- what both told after each event: the ledger's answer and counts, the mirror's with the opposite clock
   pub told : Recorded f g (opening s old) (other old) es old.seen.now new.seen.now
-  -- the way back: the script of what stands, taken whole, ends on the opening lattice with the clock negated
+  -- the way back: the script that takes back what stands is run to its end, and the opening lattice is there again, with the opposite clock
   pub way_back : GoesBack (opening s old) (life_ledger (opening s old) (other old) es) old.script.now new.script.now old.home.now new.home.now o.way_back
   pub second : new.second.now ≡ old.second.now
 
