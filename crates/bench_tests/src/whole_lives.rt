@@ -27,10 +27,10 @@ fn own(call: Record) -> Event {
     }
 }
 
-#[test]
-fn a_life_on_two_by_two(rt: HostRuntime) -> Result<(), Fail> {
-    let start = Start::new(2, 2, 0)?;
-    let events = [
+// A step, a flip that the state does not permit, a step count that has no opposite, an undo that is handed other memories, and a step.
+fn events() -> [Event; 6] {
+    let undo = Record::Undo;
+    [
         own(Record::Step(1)),
         own(Record::Flip {
             col: 0,
@@ -39,16 +39,19 @@ fn a_life_on_two_by_two(rt: HostRuntime) -> Result<(), Fail> {
         }),
         own(Record::Step(i32::MIN)),
         Event {
-            call: Record::Undo,
+            call: undo,
             lent: Lent::Part(3),
         },
         Event {
-            call: Record::Undo,
+            call: undo,
             lent: Lent::Part(4),
         },
         own(Record::Step(2)),
-    ];
-    let mut seen = [UNSEEN; 7];
+    ]
+}
+
+#[test]
+fn bench_mirror_and_way_back(rt: HostRuntime) -> Result<(), Fail> {
     let mut cells = [1, 0, 0, 0];
     let mut mirror = [7; 4];
     let mut home = [7; 4];
@@ -60,15 +63,39 @@ fn a_life_on_two_by_two(rt: HostRuntime) -> Result<(), Fail> {
         home: &mut home,
         second: &mut second,
         script: &mut script,
-        seen: &mut seen,
+        seen: &mut [],
     };
-    let outcome = live(bbm(), start, &events, &mut memories)?;
-    assert_eq!(rt; outcome.start.phase(), 1);
+    let outcome = live(bbm(), Start::new(2, 2, 0)?, &events(), &mut memories)?;
+    assert_eq!(rt;
+        (outcome.start.phase(), outcome.mirror_start.phase()),
+        (1, 1)
+    );
     assert!(rt; cells == [0, 0, 0, 1]);
     assert!(rt; mirror == [0, 0, 0, 1]);
     assert!(rt; home == [1, 0, 0, 0]);
     assert!(rt; second == [8; 9]);
     assert!(rt; script == *b"step\t-2\nstep\t-1\n....");
+    let WayBack::Gone(journey) = outcome.way_back else {
+        return Err(Fail::from(BenchRefusal::Cells));
+    };
+    assert_eq!(rt; journey.script_len, 16);
+    assert_eq!(rt; journey.answer, Ok(2));
+    assert_eq!(rt; journey.counts, (2, 0, -3, 0));
+    Ok(())
+}
+
+#[test]
+fn each_event_is_told_of(rt: HostRuntime) -> Result<(), Fail> {
+    let mut seen = [UNSEEN; 7];
+    let mut memories = Memories {
+        cells: &mut [1, 0, 0, 0],
+        mirror: &mut [0; 4],
+        home: &mut [0; 4],
+        second: &mut [0; 9],
+        script: &mut [0; 20],
+        seen: &mut seen,
+    };
+    live(bbm(), Start::new(2, 2, 0)?, &events(), &mut memories)?;
     let answers = [
         Answer::Standing(1),
         Answer::PassedOver,
@@ -84,12 +111,6 @@ fn a_life_on_two_by_two(rt: HostRuntime) -> Result<(), Fail> {
     assert_eq!(rt; seen[5].bench.counts, (2, 0, 3, 1));
     assert_eq!(rt; seen[5].mirror.counts, (2, 0, -3, 1));
     assert_eq!(rt; seen[6], UNSEEN);
-    let WayBack::Gone(journey) = outcome.way_back else {
-        return Err(Fail::from(BenchRefusal::Cells));
-    };
-    assert_eq!(rt; journey.script_len, 16);
-    assert_eq!(rt; journey.answer, Ok(2));
-    assert_eq!(rt; journey.counts, (2, 0, -3, 0));
     Ok(())
 }
 
