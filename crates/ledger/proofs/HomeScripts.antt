@@ -1,23 +1,22 @@
 -- The records that lead home are a script. Assumes nothing.
-use Rattle.std.proofs.Common.{◌≡◌, ℕ, ◌+◌, ◌*◌, ◌<◌, ◌≤◌, ℤ, true, List, [], ◌∷◌, ◌++◌, length, map, flat_map, refl, sym, ap, ◌∙◌, subst, arith, unsigned_abs}
+use Rattle.std.proofs.Common.{ℕ, ◌*◌, ◌≤◌, List, [], ◌∷◌, ◌++◌, length, map, flat_map, refl, sym, ap, subst, arith}
 use Rattle.std.proofs.lemmas.Grind.{flat_map-append}
-use Rattle.std.proofs.lemmas.List.{length-append, append-nil}
+use Rattle.std.proofs.lemmas.List.{length-append}
 use Rattle.std.proofs.lemmas.List.Elements.{All-head, All-tail}
 use Rattle.std.proofs.lemmas.List.Sums.{sum_by-cons}
 use Rattle.std.specs.List.{All, AllByRecursion}
-use Rattle.std.specs.Prelude.{IsTrue}
 use Rattle.actions.specs.Actions.{Action, Step as StepAction, Edit as EditAction, home_of}
 use Rattle.actions.specs.declared.flip.Flip.{Flip as CellFlip}
 use Rattle.ledger.proofs.HomeLaws.{home_on, home_entries}
 use Rattle.ledger.proofs.Sound.{FlipOn, ActionOn}
 use Rattle.ledger.specs.Homes.{flip_record, making, home_records, home_script}
 use Rattle.ledger.specs.Ledgers.{size, entries}
-use Rattle.scripts.proofs.WrittenLengths.{step_length, flip_length, open_length, close_length}
+use Rattle.scripts.proofs.WrittenLengths.{step_length, flip_length}
 use Rattle.scripts.specs.Laws.{IsScript}
 use Rattle.scripts.specs.Records.{kind_of, written, script_of, Writable}
-use Rattle.scripts.specs.States.{permits, after, Leads}
+use Rattle.scripts.specs.States.{after, Leads}
 use Rattle.scripts.specs.declared.record.Record.{Record}
-use Rattle.scripts.specs.declared.record.Record.TheVariants.{Step, Open, Flip, Close}
+use Rattle.scripts.specs.declared.record.Record.TheVariants.{Step, Open, Close}
 use Rattle.scripts.specs.declared.state.State.{State}
 use Rattle.scripts.specs.declared.state.State.TheVariants.{Rest, Session}
 

@@ -1,5 +1,5 @@
 -- The mirror's ledger is sound where the bench's is. Assumes nothing.
-use Rattle.std.proofs.Common.{◌≡◌, ℕ, ◌+◌, ◌<◌, ◌≤◌, List, [], ◌∷◌, length, map, ap, arith, sym}
+use Rattle.std.proofs.Common.{ℕ, List, map, ap, arith}
 use Rattle.std.proofs.lemmas.List.Elements.{All-weaker, All-map}
 use Rattle.std.specs.List.{All}
 use Rattle.actions.specs.Actions.{Action, Step, Edit}
@@ -7,7 +7,7 @@ use Rattle.lattice.specs.Lattice.{Lattice}
 use Rattle.lattice.specs.Maps.{Reversible}
 use Rattle.ledger.proofs.Mirrored.{mirror_action, mirrored, same_entries, abs_neg}
 use Rattle.ledger.proofs.Sound.{Sound, ActionOn}
-use Rattle.ledger.specs.Ledgers.{Ledger, entries}
+use Rattle.ledger.specs.Ledgers.{Ledger}
 
 action_on : (w h : ℕ) (a : Action) → ActionOn w h a → ActionOn w h (mirror_action a)
 action_on w h (Step z) on = let same = abs_neg z in (omega (arith, on.0), omega (arith, on.1))

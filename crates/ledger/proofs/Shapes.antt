@@ -1,10 +1,10 @@
 -- What a bench does keeps the shape of its lattice. Assumes nothing.
-use Rattle.std.proofs.Common.{◌≡◌, ℕ, suc, ◌+◌, ◌*◌, ℤ, pos, negsuc, zero, List, [], ◌∷◌, length, bit_xor, get_or, refl, sym, ◌∙◌}
+use Rattle.std.proofs.Common.{ℕ, suc, pos, negsuc, zero, List, [], ◌∷◌, refl}
 use Rattle.std.proofs.lemmas.List.{length-set}
 use Rattle.std.proofs.lemmas.List.Elements.{All-head, All-tail}
 use Rattle.std.specs.List.{All}
-use Rattle.actions.proofs.Home.{ByteMasks, made_within, all_made_within}
-use Rattle.actions.specs.Actions.{Action, Step, Edit, moved, made, all_made}
+use Rattle.actions.proofs.Home.{ByteMasks, made_within}
+use Rattle.actions.specs.Actions.{Action, Step, Edit, made, all_made}
 use Rattle.actions.specs.Flips.{flipped, all_flipped}
 use Rattle.actions.specs.declared.flip.Flip.{Flip}
 use Rattle.lattice.proofs.Repeats.{repeated_within}

@@ -1,14 +1,12 @@
 -- What the calls do to a lattice. Here f and g are the two functions of a map.
 --     effect f g c led l    l after the call c, if that is accepted
---     moved_on f g c led l  the same, also where it is refused: then l stays as it is. The call is handed the cells of l
 --     standing_for f g led l    what a bench with the ledger led holds, if l is the lattice of its opening: the actions that stand are made, oldest first,
 --                               and then the flips of the open session
-use Rattle.std.specs.Prelude.{take, length, reverse}
+use Rattle.std.specs.Prelude.{take, reverse}
 use Rattle.actions.specs.Actions.{moved, all_made, home_of}
 use Rattle.actions.specs.Flips.{flipped, all_flipped}
 use Rattle.lattice.specs.Lattice.{Lattice}
 use Rattle.ledger.specs.Ledgers.{Ledger, latest}
-use Rattle.ledger.specs.Refusals.{refusal, if_accepted}
 use Rattle.scripts.specs.declared.record.Record.{Record}
 use Rattle.scripts.specs.declared.record.Record.TheVariants.{Step, Undo, Redo, Open, Flip, Clear, Close}
 
@@ -20,9 +18,6 @@ effect f g Open led l = l
 effect f g (Flip c r m) led l = flipped (record { col = c; row = r; mask = m }) l
 effect f g Clear led l = all_flipped (reverse led.session) l
 effect f g Close led l = l
-
-abbrev pub moved_on : (Lattice → Lattice) → (Lattice → Lattice) → Record → Ledger → Lattice → Lattice
-moved_on f g c led l = if_accepted (refusal l.width l.height (length l.cells) c led) (effect f g c led l) l
 
 abbrev pub standing_for : (Lattice → Lattice) → (Lattice → Lattice) → Ledger → Lattice → Lattice
 standing_for f g led l = all_flipped led.session (all_made f g led.standing l)
