@@ -1,5 +1,5 @@
 // A bench at rest.
-ghost use Rattle.std.specs.Prelude.{◌≡◌, ◌≤◌, length, IsOk};
+ghost use Rattle.std.specs.Prelude.{◌≡◌, ◌≤◌, length, unsigned_abs, IsOk};
 ghost use Rattle.bench.specs.Benches.{map_of, start_of, ledger_of, handed};
 ghost use Rattle.bench.specs.Calls.{answered, booked_by, made_by};
 ghost use Rattle.bench.specs.Sessions.{session_map, session_start, session_ledger};
@@ -52,7 +52,8 @@ impl<'m, M: Map> Bench<'m, M> {
     }
 
     pub fn counts(&self) -> Counts
-        ensures { result ≡ counts (ledger_of self.now) (phase_of (start_of self.now)) }
+        ensures numbers { result ≡ counts (ledger_of self.now) (phase_of (start_of self.now)) }
+        ensures within { unsigned_abs result.2 ≤ 2560000 }
     {
         (
             self.journal.standing(),

@@ -1,5 +1,5 @@
 // A bench in session.
-ghost use Rattle.std.specs.Prelude.{◌≡◌};
+ghost use Rattle.std.specs.Prelude.{◌≡◌, ◌≤◌, unsigned_abs};
 ghost use Rattle.bench.specs.Benches.{map_of, start_of, ledger_of};
 ghost use Rattle.bench.specs.Calls.{answered, booked_by, made_by};
 ghost use Rattle.bench.specs.Sessions.{session_map, session_start, session_ledger, session_handed};
@@ -32,7 +32,8 @@ impl<'m, M: Map> Session<'m, M> {
     }
 
     pub fn counts(&self) -> Counts
-        ensures { result ≡ counts (session_ledger self.now) (phase_of (session_start self.now)) }
+        ensures numbers { result ≡ counts (session_ledger self.now) (phase_of (session_start self.now)) }
+        ensures within { unsigned_abs result.2 ≤ 2560000 }
     {
         (
             self.journal.standing(),

@@ -75,3 +75,9 @@ module _ (es : List Entry) (fs : List Flip) (n i : ℕ) (d : Entry) (inside : n 
 
 pub standing_clock : (es : List Entry) (fs : List Flip) (s u i : ℕ) → s + u ≤ length es → i ≡ s → clock_of (read_all (take i es) fs) ≡ clock_of (take s (read_all (take (s + u) es) fs))
 standing_clock es fs s u i inside all = ap (λ k. clock_of (read_all (take k es) fs)) all ∙ ap clock_of (sym (standing_read es fs s u inside))
+
+pub standing_small : (es : List Entry) (fs : List Flip) (s u : ℕ) → s + u ≤ length es → s ≤ 256 → All IsEntry (take (s + u) es) → unsigned_abs (clock_of (take s (read_all (take (s + u) es) fs))) ≤ 2560000
+standing_small es fs s u inside few valid =
+    let front : All IsEntry (take s es) = subst (All IsEntry) (take-take s (s + u) es (omega arith)) (All-take IsEntry s (take (s + u) es) valid) in
+    let is = ap (λ acts. unsigned_abs (clock_of acts)) (standing_read es fs s u inside) in
+    omega (arith, clock_small es fs s (omega arith) front)

@@ -35,7 +35,7 @@ pub struct Journal {
 }
 
 impl Journal {
-    ghost use Rattle.std.specs.Prelude.{[], map, option_to_list, ◌++◌, ◌∷◌, drop, Ok, ◌-◌};
+    ghost use Rattle.std.specs.Prelude.{[], unsigned_abs, map, option_to_list, ◌++◌, ◌∷◌, drop, Ok, ◌-◌};
     ghost use Rattle.actions.specs.Actions.{action_of, Step};
     ghost use Rattle.actions.specs.Answers.{unless};
     ghost use Rattle.journal.specs.Journals.{standing_of, undone_of, places_of};
@@ -72,7 +72,8 @@ impl Journal {
 
     // The counts of the steps that stand, added up.
     pub fn clock(&self) -> i32
-        ensures { result ≡ clock_of (standing_of self.now) }
+        ensures sum { result ≡ clock_of (standing_of self.now) }
+        ensures within { unsigned_abs result ≤ 2560000 }
     {
         let mut clock = 0;
         for entry in &self.entries[..self.standing] {

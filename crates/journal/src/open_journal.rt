@@ -20,7 +20,7 @@ pub struct OpenJournal {
 }
 
 impl OpenJournal {
-    ghost use Rattle.std.specs.Prelude.{length, ◌++◌, ◌∷◌};
+    ghost use Rattle.std.specs.Prelude.{length, unsigned_abs, ◌++◌, ◌∷◌};
     ghost use Rattle.actions.specs.Answers.{unless};
     ghost use Rattle.journal.specs.OpenJournals.{open_standing, session_of};
     ghost use Rattle.ledger.specs.Ledgers.{edit_of, clock_of};
@@ -46,7 +46,8 @@ impl OpenJournal {
 
     // The counts of the steps that stand, added up.
     pub fn clock(&self) -> i32
-        ensures { result ≡ clock_of (open_standing self.now) }
+        ensures sum { result ≡ clock_of (open_standing self.now) }
+        ensures within { unsigned_abs result ≤ 2560000 }
     {
         self.journal.clock()
     }

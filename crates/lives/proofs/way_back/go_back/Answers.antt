@@ -53,6 +53,6 @@ returns g c l within whole sound held_is =
       script = w.2;
       answer = answer;
       opening = ap (λ x. held x c.run-answer.new.cells) c.start-2.ensures ∙ lattice;
-      counts = c.counts.ensures ∙ ap₂ (λ x y. counts x y.phase) ledger lattice ∙ counts_home led.standing l.phase;
+      counts = c.counts.ensures.numbers ∙ ap₂ (λ x y. counts x y.phase) ledger lattice ∙ counts_home led.standing l.phase;
     } in
     subst (λ x. Home l x c.args.script.now c.reverse_script.new.memory c.run-answer.new.cells (record { script_len = c.in-Ok.len; answer = c.run-answer.result.1; start = c.start-2.result; counts = c.counts.result })) (sym same) is_home

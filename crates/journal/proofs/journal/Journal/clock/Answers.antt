@@ -1,11 +1,13 @@
-use Rattle.std.proofs.Common.{◌≡◌, ◌+◌, pos, get_or, ap, ◌∙◌, arith, to_z, of_z, w32}
+use Rattle.std.proofs.Common.{◌≡◌, ◌+◌, pos, get_or, ap, ◌∙◌, arith, to_z, of_z, w32, unsigned_abs}
 use Rattle.std.proofs.lemmas.Int.{to_z-of_z}
 use Rattle.std.proofs.lemmas.List.{length-take-le, get_or-take}
-use Rattle.journal.proofs.Clocks.{sum_fits, sum_read, standing_clock}
+use Rattle.journal.proofs.Clocks.{sum_fits, sum_read, standing_clock, standing_small}
 use Rattle.journal.proofs.journal.Journal.clock.Goals as goal
+use Rattle.journal.specs.Journals.{standing_of}
 use Rattle.journal.specs.Views.{entry_ticks}
 use Rattle.journal.specs.declared.entry.Entry.{Entry}
 use Rattle.journal.specs.declared.entry.Entry.TheVariants.{Step as StepEntry}
+use Rattle.ledger.specs.Ledgers.{clock_of}
 
 first : Entry
 first = StepEntry (pos 0)
@@ -33,10 +35,21 @@ loop-entry-preserved c =
     let len = length-take-le j.standing j.entries (omega arith) in
     sum_read j.entries j.flips (j.standing + j.undone) c.loop-entry.entry-index first (omega arith) (omega arith) j.valid (omega (arith, c.loop-entry-test.true)) _ _ c.loop-entry.invariant (next c)
 
-pub returns : goal.returns
-returns c =
+-- all entries were added up
+all : (c : goal.After-loop-entry) → to_z w32 c.loop-entry.clock-bits ≡ clock_of (standing_of c.args.self.now)
+all c =
     let j = c.args.self.now in
     let s = j.sizes in
     let len = length-take-le j.standing j.entries (omega arith) in
-    let all : c.loop-entry.entry-index ≡ j.standing = omega (arith, c.loop-entry-test.false, c.loop-entry.auto.entry-index-end) in
-    c.loop-entry.invariant ∙ standing_clock j.entries j.flips j.standing j.undone c.loop-entry.entry-index (omega arith) all
+    let end : c.loop-entry.entry-index ≡ j.standing = omega (arith, c.loop-entry-test.false, c.loop-entry.auto.entry-index-end) in
+    c.loop-entry.invariant ∙ standing_clock j.entries j.flips j.standing j.undone c.loop-entry.entry-index (omega arith) end
+
+pub returns-clause-sum : goal.returns-clause-sum
+returns-clause-sum c = all c
+
+pub returns-clause-within : goal.returns-clause-within
+returns-clause-within c =
+    let j = c.args.self.now in
+    let s = j.sizes in
+    let is = ap unsigned_abs (all c) in
+    omega (arith, standing_small j.entries j.flips j.standing j.undone (omega arith) (omega arith) j.valid)
