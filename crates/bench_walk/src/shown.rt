@@ -1,0 +1,43 @@
+// What is printed of a call, and of a lattice.
+use anyhow::Context;
+use bench::bench::Counts;
+use boards::write::write_board;
+use faults::run::BenchRefusal;
+use lattice::start::Start;
+use std::io;
+use std::io::Write;
+
+// No board of this size has a longer text.
+const MAX_BOARD: usize = 256;
+
+pub(crate) fn show_board(rt: &impl Print, start: &Start, cells: &[u8]) -> anyhow::Result<()> {
+    let mut memory = [0u8; MAX_BOARD];
+    let len = write_board(start, cells, &mut memory).context("the board is not written")?;
+    io::writer(rt).write_all(&memory[..len])?;
+    Ok(())
+}
+
+pub(crate) fn show_counts(rt: &impl Print, counts: Counts) -> anyhow::Result<()> {
+    let (standing, undone, clock, phase) = counts;
+    println!(rt; "\t{standing}\t{undone}\t{clock}\t{phase}")?;
+    Ok(())
+}
+
+// What stands on a line behind the call.
+pub(crate) fn show_answer(
+    rt: &impl Print,
+    answer: Result<usize, BenchRefusal>,
+    counts: Counts,
+) -> anyhow::Result<()> {
+    match answer {
+        Ok(standing) => print!(rt; "\t{standing} stand")?,
+        Err(cause) => print!(rt; "\trefused {}", u8::from(cause))?,
+    }
+    show_counts(rt, counts)
+}
+
+// The line of an open or a close.
+pub(crate) fn show_given(rt: &impl Print, call: &str, counts: Counts) -> anyhow::Result<()> {
+    print!(rt; "{call}\tgiven")?;
+    show_counts(rt, counts)
+}
