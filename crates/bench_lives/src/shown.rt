@@ -1,0 +1,71 @@
+// What is printed of a call, and of a lattice.
+use any_bench::answer::Answer;
+use anyhow::Context;
+use bench::bench::Counts;
+use boards::write::write_board;
+use lattice::start::Start;
+use lives::event::{Event, Lent, Seen, Told};
+use scripts::record::Record;
+use scripts::write::write_record;
+use std::io;
+use std::io::Write;
+
+// No board of this size has a longer text.
+const MAX_BOARD: usize = 256;
+
+// The longest record's line.
+const MAX_RECORD: usize = 38;
+
+fn show_answer(rt: &impl Print, answer: Answer) -> anyhow::Result<()> {
+    match answer {
+        Answer::PassedOver => print!(rt; "passed over")?,
+        Answer::Given => print!(rt; "given")?,
+        Answer::Standing(count) => print!(rt; "{count} stand")?,
+        Answer::Refused(cause) => print!(rt; "refused {}", u8::from(cause))?,
+    }
+    Ok(())
+}
+
+pub(crate) fn show_counts(rt: &impl Print, counts: Counts) -> anyhow::Result<()> {
+    let (standing, undone, clock, phase) = counts;
+    print!(rt; "\t{standing}\t{undone}\t{clock}\t{phase}")?;
+    Ok(())
+}
+
+fn show_told(rt: &impl Print, told: Told) -> anyhow::Result<()> {
+    show_answer(rt, told.answer)?;
+    show_counts(rt, told.counts)
+}
+
+fn show_lent(rt: &impl Print, lent: Lent) -> anyhow::Result<()> {
+    match lent {
+        Lent::Own => print!(rt; "own")?,
+        Lent::Part(len) => print!(rt; "part {len}")?,
+    }
+    Ok(())
+}
+
+fn show_record(rt: &impl Print, record: Record) -> anyhow::Result<()> {
+    let mut line = [0u8; MAX_RECORD];
+    let end = write_record(record, &mut line, 0).context("the record is not written")?;
+    io::writer(rt).write_all(&line[..end])?;
+    Ok(())
+}
+
+// One line: what bench and mirror told, the memory that the call is handed, and the call.
+pub(crate) fn show_event(rt: &impl Print, event: Event, seen: Seen) -> anyhow::Result<()> {
+    show_told(rt, seen.bench)?;
+    print!(rt; "\t")?;
+    show_told(rt, seen.mirror)?;
+    print!(rt; "\t")?;
+    show_lent(rt, event.lent)?;
+    print!(rt; "\t")?;
+    show_record(rt, event.call)
+}
+
+pub(crate) fn show_board(rt: &impl Print, start: &Start, cells: &[u8]) -> anyhow::Result<()> {
+    let mut memory = [0u8; MAX_BOARD];
+    let len = write_board(start, cells, &mut memory).context("the board is not written")?;
+    io::writer(rt).write_all(&memory[..len])?;
+    Ok(())
+}
