@@ -8,9 +8,10 @@ use Rattle.any_bench.specs.declared.answer.Answer.TheVariants.{PassedOver, Given
 use Rattle.faults.specs.declared.record.RecordFault.{RecordFault}
 use Rattle.faults.specs.declared.run.BenchRefusal.{BenchRefusal}
 use Rattle.faults.specs.declared.run.RunFault.{RunFault}
+use Rattle.faults.specs.declared.run.RunFault.TheVariants.{Bench}
 use Rattle.lattice.specs.Lattice.{Lattice}
 use Rattle.ledger.specs.Ledgers.{Ledger}
-use Rattle.runs.specs.Steps.{unless_refused, ran, answer_after, ran_answer}
+use Rattle.runs.specs.Steps.{fault_in, unless_refused, ran, answer_after, ran_answer}
 use Rattle.scripts.specs.Judgements.{in_front}
 use Rattle.scripts.specs.Reading.{left_of, reader_of, LeftBehind, MovedBy}
 use Rattle.scripts.specs.declared.record.Record.{Record}
@@ -33,6 +34,19 @@ same_records a x y e f = cc
 
 pub called : {led led' : Ledger} {l l' : Lattice} → led ≡ led' → l ≡ l' → ◌≡◌ {A = Scene} (record { ledger = led; lattice = l }) (record { ledger = led'; lattice = l' })
 called e f = ap₂ (λ x y. record { ledger = x; lattice = y }) e f
+
+-- which answers are faults
+pub refused_by : (a : Answer) (n : ℕ) (x : RunFault) → fault_in a n ≡ Some x → (e : BenchRefusal) × (a ≡ Refused e) × (x ≡ Bench e n)
+refused_by (Refused e) n x h = (e, refl, cc)
+refused_by PassedOver n x h = absurd cc
+refused_by Given n x h = absurd cc
+refused_by (Standing k) n x h = absurd cc
+
+pub taken_by : (a : Answer) (n : ℕ) → ((x : RunFault) → fault_in a n ≡ Some x → ⊥) → (e : BenchRefusal) → a ≡ Refused e → ⊥
+taken_by (Refused d) n none e is = absurd (none (Bench d n) refl)
+taken_by PassedOver n none e is = absurd cc
+taken_by Given n none e is = absurd cc
+taken_by (Standing k) n none e is = absurd cc
 
 front_left : (a : Result (List Record) RecordFault) (x : Record) (rs : List Record) → Ok rs ≡ in_front x a → (more : List Record) × (a ≡ Ok more) × (rs ≡ x ∷ more)
 front_left (Ok more) x rs h = (more, refl, cc)

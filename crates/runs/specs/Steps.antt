@@ -1,7 +1,8 @@
 -- A run, record by record, as it is made. Here f and g are the two functions of the map.
+--     fault_in a n                  the fault of the run, if a is answered to the record on line n
 --     ran f g s rs                  what is held after the records rs, up to the first that is refused
 --     ran_answer f g n k s rs       what is answered where the first of rs is on line n, and k records were made before
-use Rattle.std.specs.Prelude.{ℕ, ◌+◌, List, [], ◌∷◌, Result, Ok, Err}
+use Rattle.std.specs.Prelude.{ℕ, ◌+◌, List, [], ◌∷◌, Option, Some, None, Result, Ok, Err}
 use Rattle.any_bench.specs.Scenes.{Scene, told_at, after_call}
 use Rattle.any_bench.specs.declared.answer.Answer.{Answer}
 use Rattle.any_bench.specs.declared.answer.Answer.TheVariants.{Refused}
@@ -9,6 +10,10 @@ use Rattle.faults.specs.declared.run.RunFault.{RunFault}
 use Rattle.faults.specs.declared.run.RunFault.TheVariants.{Bench}
 use Rattle.lattice.specs.Lattice.{Lattice}
 use Rattle.scripts.specs.declared.record.Record.{Record}
+
+abbrev pub fault_in : Answer → ℕ → Option RunFault
+fault_in (Refused e) n = Some (Bench e n)
+fault_in _ n = None
 
 abbrev pub unless_refused : {A : Type 0} → Answer → A → A → A
 unless_refused (Refused e) x y = y

@@ -5,7 +5,7 @@ ghost use Rattle.any_bench.specs.Scenes.{scene_of};
 ghost use Rattle.bench.specs.Benches.{map_of};
 ghost use Rattle.runs.specs.Runs.{first_refused, answer_of, at_rest, run_answer, run_of, run_scene};
 ghost use Rattle.runs.specs.Scenes.{rest_scene};
-ghost use Rattle.runs.specs.Steps.{ran, ran_answer};
+ghost use Rattle.runs.specs.Steps.{fault_in, ran, ran_answer};
 ghost use Rattle.scripts.specs.Judgements.{script, count_of};
 ghost use Rattle.scripts.specs.Reading.{left_of, reader_of};
 ghost use Rattle.scripts.specs.declared.record.Record.{Record as ScriptRecord};
@@ -18,6 +18,16 @@ use faults::run::RunFault;
 use lattice::map::Map;
 use scripts::records::Records;
 use scripts::run::check_run;
+
+// The fault of a run, if this is the answer to the record on this line.
+fn fault_of(answer: Answer, line: usize) -> Option<RunFault>
+    ensures { result ≡ fault_in answer line }
+{
+    match answer {
+        Answer::Refused(cause) => Some(RunFault::Bench { cause, line }),
+        _ => None,
+    }
+}
 
 // Makes the `count` records that are left, up to the first that is refused.
 fn make_records<'m, M: Map>(
@@ -40,8 +50,8 @@ fn make_records<'m, M: Map>(
         };
         let (after, answer) = bench.call(record, cells);
         bench = after;
-        if let Answer::Refused(cause) = answer {
-            return (bench, Err(RunFault::Bench { cause, line }));
+        if let Some(fault) = fault_of(answer, line) {
+            return (bench, Err(fault));
         }
     }
     (bench, Ok(count))

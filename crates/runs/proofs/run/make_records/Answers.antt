@@ -2,12 +2,12 @@ use Rattle.std.proofs.Common.{Ok, length, ◌∙◌, sym, ap, subst}
 use Rattle.any_bench.specs.AnyBenches.{any_map, any_ledger, any_handed}
 use Rattle.any_bench.specs.Calls.{made_if}
 use Rattle.any_bench.specs.Scenes.{scene_of}
-use Rattle.runs.proofs.RunSteps.{same_records, called, one_made, one_refused}
+use Rattle.runs.proofs.RunSteps.{same_records, called, refused_by, taken_by, one_made, one_refused}
 use Rattle.runs.proofs.run.make_records.Goals as goal
 use Rattle.scripts.specs.Reading.{left_of, LeftBehind, MovedBy}
 
-pub returns-in-Refused-clause-scene : goal.returns-in-Refused-clause-scene
-returns-in-Refused-clause-scene g c rs is =
+pub returns-in-Some-clause-scene : goal.returns-in-Some-clause-scene
+returns-in-Some-clause-scene g c rs is =
     let F = g.M.Map.forward in
     let G = g.M.Map.backward in
     let i = c.loop-made.invariant in
@@ -20,8 +20,9 @@ returns-in-Refused-clause-scene g c rs is =
     let given = subst (λ o. LeftBehind c.loop-made.records (Ok o) c.next_record.new.self) c.in-Ok-Some.field-0-is c.in-Ok-Some.ensures.left in
     let moved = subst (λ o. MovedBy c.loop-made.records (Ok o) c.next_record.new.self) c.in-Ok-Some.field-0-is c.in-Ok-Some.ensures.moved in
     let cells = h.cells ∙ ap (λ m. made_if (F m) (G m) x (any_ledger b) (any_handed b c.loop-made.cells)) i.0 in
+    let refused = refused_by c.call-answer.result.1 c.line-line.result c.in-Some.fault (sym c.fault_of.ensures ∙ c.in-Some.is) in
     one_refused (F (any_map c.args.bench)) (G (any_map c.args.bench)) c.args.records rs (scene_of c.args.bench c.args.cells.now) c.loop-made.records t c.loop-made.made c.args.count now c.next_record.new.self x given moved
-    c.in-Refused.cause (sym h.answer ∙ c.in-Refused.is) (scene_of c.call-answer.result.0 c.call-answer.new.cells) (called h.ledger cells)
+    refused.0 (sym h.answer ∙ refused.1) (scene_of c.call-answer.result.0 c.call-answer.new.cells) (called h.ledger cells)
 
 pub loop-made-preserved : goal.loop-made-preserved
 loop-made-preserved g c =
@@ -38,5 +39,5 @@ loop-made-preserved g c =
       h.map ∙ i.0,
       λ all is len.
           one_made (F (any_map c.args.bench)) (G (any_map c.args.bench)) c.args.records all (scene_of c.args.bench c.args.cells.now) c.loop-made.records t c.loop-made.made c.args.count (i.1 all is len) c.next_record.new.self x given moved
-          (λ e refused. c.in_default-answer.not-Refused e (h.answer ∙ refused)) (scene_of c.call-answer.result.0 c.call-answer.new.cells) (called h.ledger cells),
+          (λ e refused. taken_by c.call-answer.result.1 c.line-line.result (λ y is. c.in_default-fault_of.not-Some y (c.fault_of.ensures ∙ is)) e (h.answer ∙ refused)) (scene_of c.call-answer.result.0 c.call-answer.new.cells) (called h.ledger cells),
     )
