@@ -8,7 +8,7 @@ mod journal_full;
 #[cfg(test)]
 mod longest_script;
 #[cfg(test)]
-mod runs;
+mod scripts_run;
 #[cfg(test)]
 mod sessions;
 #[cfg(test)]
