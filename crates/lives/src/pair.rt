@@ -4,6 +4,7 @@ ghost use Rattle.any_bench.specs.AnyBenches.{any_map, any_start, any_ledger, any
 ghost use Rattle.layers.specs.Parts.{reversed_of};
 ghost use Rattle.lattice.specs.Lattice.{Whole};
 ghost use Rattle.lattice.specs.Starts.{held};
+ghost use Rattle.ledger.specs.Ledgers.{at_opening};
 ghost use Rattle.lives.specs.Lives.{life_ledger, life_lattice};
 ghost use Rattle.lives.specs.Seen.{Recorded};
 ghost use Rattle.lives.specs.declared.event.Event.{Event as LifeEvent};
@@ -16,6 +17,23 @@ use any_bench::call::AnyBench;
 use lattice::map::Map;
 use lattice::start::Start;
 use layers::reverse::Reverse;
+
+// The mirror stands over the reversed map.
+fn open_both<'m, M: Map>(
+    map: &'m Reverse<M>,
+    start: Start,
+) -> (AnyBench<'m, M>, AnyBench<'m, Reverse<M>>)
+    ensures map { any_map result.0 ≡ reversed_of map.now }
+    ensures start { any_start result.0 ≡ start }
+    ensures ledger { any_ledger result.0 ≡ at_opening }
+    ensures mirror_map { any_map result.1 ≡ map.now }
+    ensures mirror_start { any_start result.1 ≡ start }
+    ensures mirror_ledger { any_ledger result.1 ≡ at_opening }
+{
+    let bench = AnyBench::new(map.inner(), start);
+    let image = AnyBench::new(map, start);
+    (bench, image)
+}
 
 // Opens both and makes all events. `seen` keeps what they tell, as far as there is room.
 pub(crate) fn make_events<'m, M: Map>(
@@ -36,8 +54,7 @@ pub(crate) fn make_events<'m, M: Map>(
     ensures second { second.new ≡ second.old }
     ensures map { any_map result.0 ≡ reversed_of map.now }
 {
-    let mut bench = AnyBench::new(map.inner(), start);
-    let mut image = AnyBench::new(map, start);
+    let (mut bench, mut image) = open_both(map, start);
     for k in 0..events.len() {
         let event = events[k];
         let (next, told) = make_event(bench, event, cells, second);
