@@ -1,11 +1,11 @@
 -- Where a bench and its mirror stand in a life, and where one more event leads them. Assumes nothing.
 --     Along f g l n es x h y i     after the events es the bench has the ledger x and holds h, the mirror has y and holds i, as the life says
-use Rattle.std.proofs.Common.{◌≡◌, ℕ, List, [], ◌∷◌, ◌++◌, ap₂, ◌∙◌}
+use Rattle.std.proofs.Common.{◌≡◌, ℕ, List, [], ◌∷◌, ◌++◌, sym, ap, ap₂, ◌∙◌}
 use Rattle.lattice.specs.Lattice.{Lattice, Within}
 use Rattle.lattice.specs.Maps.{Reversible}
 use Rattle.ledger.proofs.Mirrored.{mirrored}
 use Rattle.ledger.specs.Ledgers.{Ledger, counts}
-use Rattle.lives.proofs.MirrorLaws.{mirror_counts}
+use Rattle.lives.proofs.MirrorLaws.{mirror_counts, mirror_tells}
 use Rattle.lives.proofs.Pairs.{bench_told, bench_ledger, bench_lattice, image_told, image_ledger, image_lattice}
 use Rattle.lives.specs.Events.{event_told, event_booked, event_made}
 use Rattle.lives.specs.Lives.{life_ledger, life_lattice, told_after, of_mirror, seen_after}
@@ -46,4 +46,7 @@ module _ (f g : Lattice → Lattice) (laws : Reversible f g) (l : Lattice) (insi
       let image = b ∙ image_told f g laws l inside n es i y e so_far.image_lattice so_far.image_ledger in
       let both = c ∙ bench_counts in
       let both_images = d ∙ image_counts in
-      λ j. record { bench = record { answer = told j; counts = both j }; mirror = record { answer = image j; counts = both_images j } }
+      let is : s ≡ record { bench = told_after f g l n es e; mirror = of_mirror (told_after f g l n es e) } =
+          λ j. record { bench = record { answer = told j; counts = both j }; mirror = record { answer = image j; counts = both_images j } }
+      in
+      is ∙ ap (λ t. record { bench = told_after f g l n es e; mirror = t }) (sym (mirror_tells f g l n es e))

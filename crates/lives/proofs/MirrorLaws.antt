@@ -1,6 +1,6 @@
 -- The mirror goes along with the bench. Assumes nothing.
-use Rattle.std.proofs.Common.{◌≡◌, ℕ, ◌*◌, Bool, true, false, cond, length, neg_ℤ, refl, sym, ap, ap₂, ◌∙◌}
-use Rattle.std.proofs.lemmas.List.{length-map}
+use Rattle.std.proofs.Common.{◌≡◌, ℕ, ◌*◌, Bool, true, false, cond, List, [], ◌∷◌, ◌++◌, map, fold, length, neg_ℤ, refl, sym, ap, ap₂, ◌∙◌}
+use Rattle.std.proofs.lemmas.List.{length-map, map-append}
 use Rattle.std.specs.Prelude.{◌&&◌, ◌==◌, not}
 use Rattle.any_bench.specs.Answers.{said}
 use Rattle.any_bench.specs.declared.answer.Answer.TheVariants.{PassedOver, Given}
@@ -10,11 +10,12 @@ use Rattle.ledger.proofs.Mirrored.{mirror_action, mirrored, neg_clock, standing_
 use Rattle.ledger.proofs.MirroredSound.{mirrored_sound, reversed_laws}
 use Rattle.ledger.proofs.Sound.{Sound}
 use Rattle.ledger.specs.Effects.{standing_for}
-use Rattle.ledger.specs.Ledgers.{Ledger, clock_of, counts}
+use Rattle.ledger.specs.Ledgers.{Ledger, at_opening, clock_of, counts}
 use Rattle.ledger.specs.Mirrors.{mirror_call}
 use Rattle.ledger.specs.Refusals.{takes_cells, answer, after}
 use Rattle.lives.proofs.LifeLaws.{event_held}
 use Rattle.lives.specs.Events.{is_part, handed, is_call, event_told, event_booked, event_made}
+use Rattle.lives.specs.Lives.{life_ledger, life_lattice, told_after, of_mirror}
 use Rattle.lives.specs.Mirrors.{mirror_event}
 use Rattle.lives.specs.declared.event.Event.{Event}
 use Rattle.scripts.specs.States.{permits}
@@ -50,3 +51,29 @@ module _ (f g : Lattice → Lattice) (laws : Reversible f g) (l : Lattice) (insi
       ∙ event_held g f (reversed_laws f g laws) l inside n (mirror_event e) (mirrored led) (mirrored_sound l.width l.height led s)
       ∙ ap (λ x. standing_for g f x l) (mirror_booked l.width l.height n e led)
       ∙ standing_mirrored f g (event_booked l.width l.height n e led) l
+
+mirror_from : (w h n : ℕ) (es : List Event) (led : Ledger) → fold (λ x e. event_booked w h n e x) (mirrored led) (map mirror_event es) ≡ mirrored (fold (λ x e. event_booked w h n e x) led es)
+mirror_from w h n [] led = refl
+mirror_from w h n (e ∷ es) led = ap (λ x. fold (λ y d. event_booked w h n d y) x (map mirror_event es)) (mirror_booked w h n e led) ∙ mirror_from w h n es (event_booked w h n e led)
+
+-- the ledger of the mirror's own life
+pub mirror_life : (l : Lattice) (n : ℕ) (es : List Event) → life_ledger l n (map mirror_event es) ≡ mirrored (life_ledger l n es)
+mirror_life l n es = mirror_from l.width l.height n es at_opening
+
+module _ (f g : Lattice → Lattice) (l : Lattice) (n : ℕ) (es : List Event) where
+  -- it holds the same
+  pub mirror_holds : life_lattice g f l n (map mirror_event es) ≡ life_lattice f g l n es
+  mirror_holds = ap (λ x. standing_for g f x l) (mirror_life l n es) ∙ standing_mirrored f g (life_ledger l n es) l
+
+module _ (f g : Lattice → Lattice) (l : Lattice) (n : ℕ) (es : List Event) (e : Event) where
+  more : map mirror_event es ++ (mirror_event e ∷ []) ≡ map mirror_event (es ++ (e ∷ []))
+  more = sym (map-append mirror_event es (e ∷ []))
+
+  -- and tells the same, with the opposite clock
+  pub mirror_tells : told_after g f l n (map mirror_event es) (mirror_event e) ≡ of_mirror (told_after f g l n es e)
+  mirror_tells =
+      let a = ap (event_told l.width l.height n (mirror_event e)) (mirror_life l n es) ∙ mirror_told l.width l.height n e (life_ledger l n es) in
+      let led = ap (life_ledger l n) more ∙ mirror_life l n (es ++ (e ∷ [])) in
+      let lattice = ap (life_lattice g f l n) more ∙ mirror_holds f g l n (es ++ (e ∷ [])) in
+      let c = ap₂ (λ x m. counts x m.phase) led lattice ∙ mirror_counts (life_ledger l n (es ++ (e ∷ []))) (life_lattice f g l n (es ++ (e ∷ []))).phase in
+      λ i. record { answer = a i; counts = c i }

@@ -3,13 +3,14 @@
 --     life_ledger l n es          the ledger after the events
 --     life_lattice f g l n es     the lattice that is held then
 --     told_after f g l n es e     what the bench tells of one more event, e: its answer, and the count call's after it
---     of_mirror t                 what the mirror tells where the bench tells t: the same, with the opposite clock
---     seen_after f g l n es e     what both tell
-use Rattle.std.specs.Prelude.{ℕ, List, [], ◌∷◌, ◌++◌, fold, neg_ℤ}
+--     of_mirror t                 the same told with the opposite clock
+--     seen_after f g l n es e     what bench and mirror tell: the mirror has had the mirror's events, over the reversed map
+use Rattle.std.specs.Prelude.{ℕ, List, [], ◌∷◌, ◌++◌, map, fold, neg_ℤ}
 use Rattle.lattice.specs.Lattice.{Lattice}
 use Rattle.ledger.specs.Effects.{standing_for}
 use Rattle.ledger.specs.Ledgers.{Ledger, at_opening, counts}
 use Rattle.lives.specs.Events.{event_told, event_booked}
+use Rattle.lives.specs.Mirrors.{mirror_event}
 use Rattle.lives.specs.declared.event.Event.{Event}
 use Rattle.lives.specs.declared.event.Seen.{Seen}
 use Rattle.lives.specs.declared.event.Told.{Told}
@@ -30,4 +31,4 @@ abbrev pub of_mirror : Told → Told
 of_mirror t = record { answer = t.answer; counts = (t.counts.0, t.counts.1, neg_ℤ t.counts.2, t.counts.3) }
 
 abbrev pub seen_after : (Lattice → Lattice) → (Lattice → Lattice) → Lattice → ℕ → List Event → Event → Seen
-seen_after f g l n es e = record { bench = told_after f g l n es e; mirror = of_mirror (told_after f g l n es e) }
+seen_after f g l n es e = record { bench = told_after f g l n es e; mirror = told_after g f l n (map mirror_event es) (mirror_event e) }

@@ -54,13 +54,16 @@ fn live_through<M: Map + Drop>(
     let second = &mut *memories.second;
     let seen = &mut *memories.seen;
     let (bench, image) = make_events(&reversed, start, events, cells, mirror, second, seen);
-    let (end, mirror_end) = (bench.start(), image.start());
+    let (end, counts) = (bench.start(), bench.counts());
+    let (mirror_end, mirror_counts) = (image.start(), image.counts());
     let home = &mut *memories.home;
     let script = &mut *memories.script;
     let way_back = go_back(reversed.inner(), bench, cells, home, script);
     Outcome {
         start: end,
+        counts,
         mirror_start: mirror_end,
+        mirror_counts,
         way_back,
     }
 }

@@ -24,10 +24,12 @@ pub enum WayBack {
     Gone(Journey),
 }
 
-// The start records of the bench and of its mirror at the end, and the way back.
+// The start records of the bench and of its mirror at the end, and what the count call answers then; and the way back.
 #[derive(Clone, Copy, PartialEq, Eq, Debug)]
 pub struct Outcome {
     pub start: Start,
+    pub counts: Counts,
     pub mirror_start: Start,
+    pub mirror_counts: Counts,
     pub way_back: WayBack,
 }

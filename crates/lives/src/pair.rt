@@ -4,6 +4,7 @@ ghost use Rattle.any_bench.specs.AnyBenches.{any_map, any_start, any_ledger, any
 ghost use Rattle.layers.specs.Parts.{reversed_of};
 ghost use Rattle.lattice.specs.Lattice.{Whole};
 ghost use Rattle.lattice.specs.Starts.{held};
+ghost use Rattle.ledger.proofs.Mirrored.{mirrored as mirrored_ledger};
 ghost use Rattle.ledger.specs.Ledgers.{at_opening};
 ghost use Rattle.lives.specs.Lives.{life_ledger, life_lattice};
 ghost use Rattle.lives.specs.Seen.{Recorded};
@@ -49,6 +50,7 @@ pub(crate) fn make_events<'m, M: Map>(
     requires copy { mirror.old ≡ cells.old }
     ensures ledger { any_ledger result.0 ≡ life_ledger (held start cells.old) (length second.old) events.now }
     ensures cells { any_handed result.0 cells.new ≡ life_lattice (M.forward (reversed_of map.now)) (M.backward (reversed_of map.now)) (held start cells.old) (length second.old) events.now }
+    ensures mirror_ledger { any_ledger result.1 ≡ mirrored_ledger (life_ledger (held start cells.old) (length second.old) events.now) }
     ensures mirror { any_handed result.1 mirror.new ≡ life_lattice (M.forward (reversed_of map.now)) (M.backward (reversed_of map.now)) (held start cells.old) (length second.old) events.now }
     ensures seen { Recorded (M.forward (reversed_of map.now)) (M.backward (reversed_of map.now)) (held start cells.old) (length second.old) events.now seen.old seen.new }
     ensures second { second.new ≡ second.old }

@@ -25,7 +25,7 @@ pub(crate) fn go_back<M: Map>(
     requires same { any_map bench ≡ map.now }
     requires count { length home.old ≡ length cells.now }
     requires life { (l : Lattice) × Within l × Whole l × Sound l.width l.height (any_ledger bench) × (any_handed bench cells.now ≡ standing_for (M.forward map.now) (M.backward map.now) (any_ledger bench) l) }
-    ensures { (l : Lattice) → Within l → Whole l → Sound l.width l.height (any_ledger bench.entry) → any_handed bench.entry cells.now ≡ standing_for (M.forward map.now) (M.backward map.now) (any_ledger bench.entry) l → GoesBack l (any_ledger bench.entry) script.old script.new home.old home.new result }
+    ensures { (l : Lattice) → Within l → Whole l → Sound l.width l.height (any_ledger bench.entry) → any_handed bench.entry cells.now ≡ standing_for (M.forward map.now) (M.backward map.now) (any_ledger bench.entry) l → GoesBack (M.forward map.now) (M.backward map.now) l (any_ledger bench.entry) script.old script.new home.old home.new result }
 {
     let AnyBench::Rest(bench) = bench else {
         return WayBack::InSession;

@@ -10,7 +10,7 @@ use Rattle.ledger.specs.Homes.{home_records, home_script}
 use Rattle.ledger.specs.Ledgers.{at_opening, counts}
 use Rattle.lives.proofs.WaysHome.{home_answer, home_scene, begins, counts_home}
 use Rattle.lives.proofs.way_back.go_back.Goals as goal
-use Rattle.lives.specs.WaysBack.{Home}
+use Rattle.lives.specs.WaysBack.{begun, Home}
 use Rattle.runs.specs.Runs.{run_answer, run_scene}
 use Rattle.runs.specs.Scenes.{rest_scene}
 use Rattle.scripts.specs.declared.state.State.TheVariants.{Rest}
@@ -38,21 +38,25 @@ returns g c l within whole sound held_is =
     let first : rest_scene nb copy ≡ record { ledger = at_opening; lattice = standing_for (F m) (G m) led l } =
     begins (ledger_of nb) (handed nb copy) (standing_for (F m) (G m) led l) n.ledger (ap₂ held (n.start ∙ c.start.ensures) c.copy_from_slice.ensures.after ∙ here)
     in
-    let answer : c.run-answer.result.1 ≡ Ok (length (home_records led.standing)) =
-    r.answer ∙ ap (λ x. run_answer (F x) (G x) (rest_scene nb copy) 1 text) n.map ∙ ap₂ (λ x y. run_answer (F m) (G m) x 1 y) first text_is ∙ home_answer (F m) (G m) laws l within whole led sound' refl 1
+    let ran : c.run-answer.result.1 ≡ run_answer (F m) (G m) (begun (F m) (G m) l led) 1 hs =
+    r.answer ∙ ap (λ x. run_answer (F x) (G x) (rest_scene nb copy) 1 text) n.map ∙ ap₂ (λ x y. run_answer (F m) (G m) x 1 y) first text_is
     in
-    let scene : rest_scene third c.run-answer.new.cells ≡ record { ledger = record { standing = home_of led.standing; undone = []; session = []; state = Rest }; lattice = l } =
-    r.scene ∙ ap (λ x. run_scene (F x) (G x) (rest_scene nb copy) 1 text) n.map ∙ ap₂ (λ x y. run_scene (F m) (G m) x 1 y) first text_is ∙ home_scene (F m) (G m) laws l within whole led sound' refl 1
+    let went : rest_scene third c.run-answer.new.cells ≡ run_scene (F m) (G m) (begun (F m) (G m) l led) 1 hs =
+    r.scene ∙ ap (λ x. run_scene (F x) (G x) (rest_scene nb copy) 1 text) n.map ∙ ap₂ (λ x y. run_scene (F m) (G m) x 1 y) first text_is
     in
+    let scene = went ∙ home_scene (F m) (G m) laws l within whole led sound' refl 1 in
+    let start = ap (λ x. held x c.run-answer.new.cells) c.start-2.ensures in
     let lattice : handed third c.run-answer.new.cells ≡ l = ap (λ x. x.lattice) scene in
     let ledger = ap (λ x. x.ledger) scene in
-    let is_home : Home l led c.args.script.now c.reverse_script.new.memory c.run-answer.new.cells (record { script_len = c.in-Ok.len; answer = c.run-answer.result.1; start = c.start-2.result; counts = c.counts.result }) = record {
+    let is_home : Home (F m) (G m) l led c.args.script.now c.reverse_script.new.memory c.run-answer.new.cells (record { script_len = c.in-Ok.len; answer = c.run-answer.result.1; start = c.start-2.result; counts = c.counts.result }) = record {
       rests = refl;
       len = w.0;
       room = w.1;
       script = w.2;
-      answer = answer;
-      opening = ap (λ x. held x c.run-answer.new.cells) c.start-2.ensures ∙ lattice;
+      ran = ran;
+      came_to = start ∙ ap (λ x. x.lattice) went;
+      answer = ran ∙ home_answer (F m) (G m) laws l within whole led sound' refl 1;
+      opening = start ∙ lattice;
       counts = c.counts.ensures.numbers ∙ ap₂ (λ x y. counts x y.phase) ledger lattice ∙ counts_home led.standing l.phase;
     } in
-    subst (λ x. Home l x c.args.script.now c.reverse_script.new.memory c.run-answer.new.cells (record { script_len = c.in-Ok.len; answer = c.run-answer.result.1; start = c.start-2.result; counts = c.counts.result })) (sym same) is_home
+    subst (λ x. Home (F m) (G m) l x c.args.script.now c.reverse_script.new.memory c.run-answer.new.cells (record { script_len = c.in-Ok.len; answer = c.run-answer.result.1; start = c.start-2.result; counts = c.counts.result })) (sym same) is_home
