@@ -3,7 +3,7 @@
 --     moved f g z l    l moved by z: forward by a positive count, back by a negative one
 --     made f g a l     l after the action a
 --     reversed a       the action that takes a back
---     all_made f g acts l    l after the actions `as`, the first one first
+--     all_made f g acts l    l after the actions acts, the first one first
 --     action_of r      the action that r refers to
 --     home_of acts     the actions that lead home from where acts have led: the last one is taken back first
 use Rattle.std.specs.Prelude.{suc, List, map, reverse, fold, ℤ, pos, negsuc, neg_ℤ}

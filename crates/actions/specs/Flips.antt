@@ -1,6 +1,6 @@
 -- Flips of cells.
 --     flip_refusal w h c r m     why there is no flip of column c, row r and mask m on a lattice with the sides w and h
---     flipped f l                l where the mask of f is XORed into the cell that f names
+--     flipped f l                l where the mask of f is XORed into the cell at the place of its column and row; l itself, where there is no such place
 --     all_flipped fs l           l after the flips fs, the first one first
 use Rattle.std.specs.Prelude.{ℕ, ◌+◌, ◌*◌, ◌&&◌, List, set, fold, Option, Some, None, nat_lt, nat_le, bit_xor, if◌then◌else◌}
 use Rattle.faults.specs.declared.run.BenchRefusal.{BenchRefusal}

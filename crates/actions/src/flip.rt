@@ -35,7 +35,7 @@ impl Flip {
         })
     }
 
-    // Makes the flip. Off the cells there is nothing to flip.
+    // Makes the flip at the place of its column and row. Where there is no such place, there is nothing to flip.
     pub fn make(self, start: &Start, cells: &mut [u8])
         ensures { held start.now cells.new ≡ flipped self (held start.now cells.old) }
     {

@@ -3,7 +3,7 @@ use faults::run::BenchRefusal;
 
 #[derive(Clone, Copy, PartialEq, Eq, Debug)]
 pub enum Answer {
-    // The state does not permit the call: it was not made.
+    // The call was not made: the state does not permit it, or it is no call of a life.
     PassedOver,
     // An open or a close: the bench itself.
     Given,

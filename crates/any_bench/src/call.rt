@@ -1,5 +1,5 @@
 // A bench in either state.
-ghost use Rattle.std.specs.Prelude.{◌≡◌};
+ghost use Rattle.std.specs.Prelude.{◌≡◌, ◌≤◌, unsigned_abs};
 ghost use Rattle.any_bench.specs.Answers.{said, told};
 ghost use Rattle.any_bench.specs.AnyBenches.{any_map, any_start, any_ledger, any_handed};
 ghost use Rattle.any_bench.specs.Calls.{booked_if, made_if};
@@ -32,6 +32,7 @@ impl From<Result<usize, BenchRefusal>> for Answer {
 impl<'m, M: Map> AnyBench<'m, M> {
     ghost use Rattle.lattice.specs.Starts.{phase_of};
     ghost use Rattle.ledger.specs.Ledgers.{at_opening, counts};
+    ghost use Rattle.ledger.specs.Refusals.{max_clock};
 
     // Opens a bench.
     pub fn new(map: &'m M, start: Start) -> AnyBench<'m, M>
@@ -53,7 +54,8 @@ impl<'m, M: Map> AnyBench<'m, M> {
     }
 
     pub fn counts(&self) -> Counts
-        ensures { result ≡ counts (any_ledger self.now) (phase_of (any_start self.now)) }
+        ensures numbers { result ≡ counts (any_ledger self.now) (phase_of (any_start self.now)) }
+        ensures within { unsigned_abs result.2 ≤ max_clock }
     {
         match self {
             AnyBench::Rest(bench) => bench.counts(),

@@ -3,7 +3,7 @@ ghost use Rattle.std.specs.Prelude.{◌≡◌, ◌≤◌, length, unsigned_abs, 
 ghost use Rattle.bench.specs.Benches.{map_of, start_of, ledger_of, handed};
 ghost use Rattle.bench.specs.Calls.{answered, booked_by, made_by};
 ghost use Rattle.bench.specs.Sessions.{session_map, session_start, session_ledger};
-ghost use Rattle.reverse_script.specs.Written.{ScriptWritten};
+ghost use Rattle.reverse_script.specs.Written.{ScriptWritten, max_script};
 ghost use Rattle.scripts.specs.declared.record.Record.TheVariants.{Step, Undo, Redo, Open};
 
 use crate::session::Session;
@@ -30,6 +30,7 @@ pub struct Bench<'m, M> {
 impl<'m, M: Map> Bench<'m, M> {
     ghost use Rattle.lattice.specs.Starts.{phase_of};
     ghost use Rattle.ledger.specs.Ledgers.{at_opening, counts, booked};
+    ghost use Rattle.ledger.specs.Refusals.{max_clock};
 
     // Opens a bench. The lattice of its opening is the start record with the cells that the caller has then.
     pub fn new(map: &'m M, start: Start) -> Bench<'m, M>
@@ -53,7 +54,7 @@ impl<'m, M: Map> Bench<'m, M> {
 
     pub fn counts(&self) -> Counts
         ensures numbers { result ≡ counts (ledger_of self.now) (phase_of (start_of self.now)) }
-        ensures within { unsigned_abs result.2 ≤ 2560000 }
+        ensures within { unsigned_abs result.2 ≤ max_clock }
     {
         (
             self.journal.standing(),
@@ -120,7 +121,7 @@ impl<'m, M: Map> Bench<'m, M> {
     pub fn reverse_script(&self, memory: &mut [u8]) -> Result<usize, ScriptRefusal>
         ensures answer { ScriptWritten (ledger_of self.now).standing memory.old memory.new result }
         // 7,168 bytes are always enough
-        ensures enough { 7168 ≤ length memory.old → IsOk result }
+        ensures enough { max_script ≤ length memory.old → IsOk result }
     {
         write_reverse_script(&self.journal, memory)
     }

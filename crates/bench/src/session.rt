@@ -23,6 +23,7 @@ pub struct Session<'m, M> {
 impl<'m, M: Map> Session<'m, M> {
     ghost use Rattle.lattice.specs.Starts.{phase_of};
     ghost use Rattle.ledger.specs.Ledgers.{counts, booked};
+    ghost use Rattle.ledger.specs.Refusals.{max_clock};
 
     // The start record of the lattice that is held now.
     pub fn start(&self) -> Start
@@ -33,7 +34,7 @@ impl<'m, M: Map> Session<'m, M> {
 
     pub fn counts(&self) -> Counts
         ensures numbers { result ≡ counts (session_ledger self.now) (phase_of (session_start self.now)) }
-        ensures within { unsigned_abs result.2 ≤ 2560000 }
+        ensures within { unsigned_abs result.2 ≤ max_clock }
     {
         (
             self.journal.standing(),

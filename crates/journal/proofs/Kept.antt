@@ -1,10 +1,8 @@
 -- Every action of a journal is one that is kept. Assumes nothing.
-use Rattle.std.proofs.Common.{◌≡◌, ℕ, ◌+◌, ◌-◌, ◌*◌, ◌<◌, ◌≤◌, List, [], ◌∷◌, length, take, drop, sym, subst, arith, unsigned_abs}
+use Rattle.std.proofs.Common.{◌+◌, ◌≤◌, List, [], ◌∷◌, length, take, drop, sym, subst, arith}
 use Rattle.std.proofs.lemmas.List.{length-take-le, length-drop, take-take}
 use Rattle.std.proofs.lemmas.List.Elements.{All-nil, All-cons, All-head, All-tail, All-take}
-use Rattle.std.proofs.lemmas.List.Sums.{sum_by-take-le}
 use Rattle.std.specs.List.{All}
-use Rattle.actions.specs.Actions.{Action, Step, Edit}
 use Rattle.actions.specs.declared.flip.Flip.{Flip}
 use Rattle.journal.proofs.Booking.{standing_places}
 use Rattle.journal.proofs.Entries.{places_cons}

@@ -40,7 +40,7 @@ impl Journal {
     ghost use Rattle.actions.specs.Answers.{unless};
     ghost use Rattle.journal.specs.Journals.{standing_of, undone_of, places_of};
     ghost use Rattle.ledger.specs.Ledgers.{entries};
-    ghost use Rattle.ledger.specs.Refusals.{step_refusal, if_accepted};
+    ghost use Rattle.ledger.specs.Refusals.{max_clock, step_refusal, if_accepted};
 
     // Nothing stands, and nothing was undone.
     pub fn new() -> Journal
@@ -73,7 +73,7 @@ impl Journal {
     // The counts of the steps that stand, added up.
     pub fn clock(&self) -> i32
         ensures sum { result ≡ clock_of (standing_of self.now) }
-        ensures within { unsigned_abs result ≤ 2560000 }
+        ensures within { unsigned_abs result ≤ max_clock }
     {
         let mut clock = 0;
         for entry in &self.entries[..self.standing] {

@@ -24,7 +24,7 @@ impl OpenJournal {
     ghost use Rattle.actions.specs.Answers.{unless};
     ghost use Rattle.journal.specs.OpenJournals.{open_standing, session_of};
     ghost use Rattle.ledger.specs.Ledgers.{edit_of, clock_of};
-    ghost use Rattle.ledger.specs.Refusals.{if_room, if_accepted};
+    ghost use Rattle.ledger.specs.Refusals.{max_clock, if_room, if_accepted};
 
     // What was undone is forgotten.
     #[tactic(auto, using(crate::proofs::Used::standing_room))]
@@ -47,7 +47,7 @@ impl OpenJournal {
     // The counts of the steps that stand, added up.
     pub fn clock(&self) -> i32
         ensures sum { result ≡ clock_of (open_standing self.now) }
-        ensures within { unsigned_abs result ≤ 2560000 }
+        ensures within { unsigned_abs result ≤ max_clock }
     {
         self.journal.clock()
     }

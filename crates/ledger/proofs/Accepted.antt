@@ -7,7 +7,7 @@ use Rattle.actions.specs.Flips.{flip_refusal}
 use Rattle.faults.specs.declared.run.BenchRefusal.{BenchRefusal}
 use Rattle.faults.specs.declared.run.BenchRefusal.TheVariants.{Cells, JournalFull}
 use Rattle.ledger.specs.Ledgers.{Ledger}
-use Rattle.ledger.specs.Refusals.{is_step_count, if_room, step_refusal, or_else, if_some, own_refusal, takes_cells, refusal, if_accepted}
+use Rattle.ledger.specs.Refusals.{is_step_count, if_room, step_refusal, or_else, if_none, own_refusal, takes_cells, refusal, if_accepted}
 use Rattle.scripts.specs.declared.record.Record.{Record}
 
 -- by whether there is a refusal
@@ -59,10 +59,10 @@ cells_accepted w h n c led takes e = here (n == w * h) refl (rw takes at e)
     here true is e = (eqb-true n (w * h) is, e)
     here false is e = absurd cc
 
-pub some_accepted : (k : ℕ) (e : BenchRefusal) → if_some k e ≡ None → 0 < k
+pub some_accepted : (k : ℕ) (e : BenchRefusal) → if_none k e ≡ None → 0 < k
 some_accepted k e h = here k h
   where
-    here : (j : ℕ) → if_some j e ≡ None → 0 < j
+    here : (j : ℕ) → if_none j e ≡ None → 0 < j
     here zero h = absurd cc
     here (suc j) h = omega arith
 

@@ -1,4 +1,5 @@
 pub mod Accepted
+pub mod Edits
 pub mod Held
 pub mod HomeLaws
 pub mod HomeScripts

@@ -1,11 +1,14 @@
 -- The ledger: what a bench remembers, as lists of actions.
 --     Ledger           the actions that stand, oldest first; those that were undone, next to redo first; the flips of the open session; the state
 --     at_opening       the ledger of a bench that was just opened
+--     size a           how many entries the action a takes
 --     entries acts     how many entries the actions take: one for a step, one for each flip
 --     used led         how many entries stand, the open session's with them
---     clock_of acts       the counts of the steps, added up
+--     ticks a          what the action a adds to the clock
+--     clock_of acts    the counts of the steps, added up
 --     counts led p     what the count call answers where the phase is p: actions standing, actions undone, clock, phase
 --     edit_of fs       the flips fs as an edit; none where there is no flip
+--     earlier led, latest led     all but the last action that stands; the last, as a list
 --     booked c led     the ledger after the call c, if that is accepted
 use Rattle.std.specs.Prelude.{ℕ, ◌+◌, ◌-◌, List, [], ◌∷◌, ◌++◌, length, take, drop, fold, sum_by, ℤ, pos, ◌+ℤ◌}
 use Rattle.actions.specs.Actions.{Action, Step, Edit}
@@ -48,7 +51,6 @@ abbrev pub edit_of : List Flip → List Action
 edit_of [] = []
 edit_of (f ∷ fs) = Edit (f ∷ fs) ∷ []
 
--- all but the last action that stands, and the last
 abbrev pub earlier : Ledger → List Action
 earlier led = take (length led.standing - 1) led.standing
 

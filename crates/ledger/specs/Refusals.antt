@@ -1,9 +1,14 @@
 -- Which calls are refused. The sides of the lattice are w and h; a call that takes cells is handed n of them.
 --     max_entries               how many entries a journal has room for
 --     max_step                  the largest count of a step, either way
+--     max_clock                 how far the clock can go, either way
 --     is_step_count z           z can be the count of a step
 --     if_room k                 no refusal, where fewer than max_entries entries are used; k are
 --     step_refusal z k          why a step by z is refused where k entries are used
+--     or_else e d               the refusal e, or else d
+--     if_none k e               the refusal e, if k is 0
+--     own_refusal w h c led     why the call c is refused, if it is not for the cells that it is handed
+--     takes_cells c             the call c is handed cells
 --     refusal w h n c led       the first cause for which the call c is refused, if there is one
 --     if_accepted e x y         x if there is no refusal e, and y if there is
 --     answer w h n c led        what the call c answers: how many actions stand then, or why it is refused
@@ -23,6 +28,9 @@ max_entries = 256
 abbrev pub max_step : ℕ
 max_step = 10000
 
+abbrev pub max_clock : ℕ
+max_clock = 2560000
+
 abbrev pub is_step_count : ℤ → Bool
 is_step_count z = nat_lt 0 (unsigned_abs z) && nat_le (unsigned_abs z) max_step
 
@@ -32,18 +40,17 @@ if_room k = if nat_lt k max_entries then None else Some JournalFull
 abbrev pub step_refusal : ℤ → ℕ → Option BenchRefusal
 step_refusal z k = if is_step_count z then if_room k else Some StepCount
 
--- the refusal e, or else d
 abbrev pub or_else : Option BenchRefusal → Option BenchRefusal → Option BenchRefusal
 or_else None d = d
 or_else (Some e) d = Some e
 
-abbrev pub if_some : ℕ → BenchRefusal → Option BenchRefusal
-if_some k e = if k == 0 then Some e else None
+abbrev pub if_none : ℕ → BenchRefusal → Option BenchRefusal
+if_none k e = if k == 0 then Some e else None
 
 abbrev pub own_refusal : ℕ → ℕ → Record → Ledger → Option BenchRefusal
 own_refusal w h (Step z) led = step_refusal z (used led)
-own_refusal w h Undo led = if_some (length led.standing) NothingToUndo
-own_refusal w h Redo led = if_some (length led.undone) NothingToRedo
+own_refusal w h Undo led = if_none (length led.standing) NothingToUndo
+own_refusal w h Redo led = if_none (length led.undone) NothingToRedo
 own_refusal w h Open led = None
 own_refusal w h (Flip c r m) led = or_else (flip_refusal w h c r m) (if_room (used led))
 own_refusal w h Clear led = None

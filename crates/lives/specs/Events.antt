@@ -1,8 +1,11 @@
 -- What happens in a life, by the ledger. The sides of the lattice are w and h, and the second memory has n bytes.
+--     lent_count k n t         how many bytes the lending t hands over, of k own ones or of n others
+--     is_part t                t lends a part of the second memory
 --     handed w h n e           how many cells the event e hands to its call
 --     is_call w h n e led      e is a call of the life: the state permits it, and it is not handed a part of the second memory that has as many cells as the lattice
 --     event_told w h n e led   what is answered to it; what is no call is passed over, and open and close give only the bench
 --     event_booked w h n e led     the ledger after it
+--     event_made f g n e led l     what becomes of the lattice l that is held, where f and g are the two functions of the map
 use Rattle.std.specs.Prelude.{ℕ, ◌*◌, ◌==◌, ◌&&◌, Bool, true, false, not, min, if◌then◌else◌}
 use Rattle.any_bench.specs.Answers.{said}
 use Rattle.any_bench.specs.declared.answer.Answer.{Answer}
@@ -37,7 +40,6 @@ event_told w h n e led = if is_call w h n e led then (if takes_cells e.call then
 abbrev pub event_booked : ℕ → ℕ → ℕ → Event → Ledger → Ledger
 event_booked w h n e led = if is_call w h n e led then after w h (handed w h n e) e.call led else led
 
--- what becomes of the lattice l that is held, where f and g are the two functions of the map
 abbrev pub event_made : (Lattice → Lattice) → (Lattice → Lattice) → ℕ → Event → Ledger → Lattice → Lattice
 event_made f g n e led l =
     if is_call l.width l.height n e led then if_accepted (refusal l.width l.height (handed l.width l.height n e) e.call led) (effect f g e.call led l) l else l

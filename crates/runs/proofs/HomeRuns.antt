@@ -14,6 +14,7 @@ use Rattle.faults.specs.declared.run.BenchRefusal.{BenchRefusal}
 use Rattle.lattice.specs.Lattice.{Lattice, Whole, Within, SameShape}
 use Rattle.lattice.specs.Maps.{Reversible}
 use Rattle.ledger.proofs.Accepted.{room_refusal, step_taken, flip_taken, whole_refusal}
+use Rattle.ledger.proofs.Edits.{edit_is}
 use Rattle.ledger.proofs.Held.{effect_held}
 use Rattle.ledger.proofs.Shapes.{standing_shape}
 use Rattle.ledger.proofs.Sound.{Sound, FlipOn, ActionOn, booked_sound}
@@ -87,10 +88,6 @@ module _ (f g : Lattice → Lattice) (laws : Reversible f g) (l : Lattice) (insi
       one_goes (flip_record x) (editing acts made) refl s own (map flip_record fs ++ rs) u
       (flips_go fs acts (made ++ (x ∷ [])) (All-tail (FlipOn l.width l.height) x fs on) (sound_then (flip_record x) (editing acts made) refl s own) (omega arith) rs u
       (subst (λ q. Goes f g (at (editing acts q)) rs u) (sym (append_assoc made (x ∷ []) fs)) rest))
-
-  edit_is : (fs : List Flip) → 0 < length fs → edit_of fs ≡ Edit fs ∷ []
-  edit_is [] some = absurd (omega arith)
-  edit_is (x ∷ fs) some = refl
 
   session_sound : (fs : List Flip) (acts : List Action) → Sound l.width l.height (resting acts) → All (FlipOn l.width l.height) fs → entries acts + length fs ≤ 256 → Sound l.width l.height (editing acts fs)
   session_sound fs acts s on room = record { standing = s.standing; undone = s.undone; session = on; room = omega arith; at_rest = λ i. absurd cc; in_session = λ _. refl }

@@ -1,15 +1,9 @@
-use Rattle.std.proofs.Common.{◌≡◌, ◌<◌, ◌++◌, [], ◌∷◌, List, length, take, refl, sym, ap, ◌∙◌, arith}
+use Rattle.std.proofs.Common.{◌++◌, take, sym, ap, ◌∙◌, arith}
 use Rattle.std.proofs.lemmas.List.{length-take-le}
-use Rattle.actions.specs.Actions.{Edit}
-use Rattle.actions.specs.declared.flip.Flip.{Flip}
 use Rattle.journal.proofs.Used.{places_left}
 use Rattle.journal.proofs.open_journal.OpenJournal.close.Goals as goal
+use Rattle.ledger.proofs.Edits.{edit_is}
 use Rattle.journal.specs.Journals.{standing_of, places_of}
-use Rattle.ledger.specs.Ledgers.{edit_of}
-
-edit_is : (fs : List Flip) → 0 < length fs → edit_of fs ≡ Edit fs ∷ []
-edit_is [] some = absurd (omega arith)
-edit_is (f ∷ fs) some = refl
 
 pub returns-then-self-gt0-clause-standing : goal.returns-then-self-gt0-clause-standing
 returns-then-self-gt0-clause-standing c =
