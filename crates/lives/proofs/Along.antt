@@ -47,6 +47,6 @@ module _ (f g : Lattice → Lattice) (laws : Reversible f g) (l : Lattice) (insi
       let both = c ∙ bench_counts in
       let both_images = d ∙ image_counts in
       let is : s ≡ record { bench = told_after f g l n es e; mirror = of_mirror (told_after f g l n es e) } =
-          λ j. record { bench = record { answer = told j; counts = both j }; mirror = record { answer = image j; counts = both_images j } }
+      λ j. record { bench = record { answer = told j; counts = both j }; mirror = record { answer = image j; counts = both_images j } }
       in
       is ∙ ap (λ t. record { bench = told_after f g l n es e; mirror = t }) (sym (mirror_tells f g l n es e))

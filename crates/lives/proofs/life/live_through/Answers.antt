@@ -56,7 +56,7 @@ returns g c =
       told = subst (λ x. Recorded (F x) (G x) l n es m.seen.now c.make_events.new.seen) rev e.seen;
       alike = λ k x. mirror_tells (F c.args.map) (G c.args.map) l n (take k es) x;
       way_back = subst (λ x. GoesBack (F c.args.map) (G c.args.map) l x m.script.now c.go_back-way_back.new.script m.home.now c.go_back-way_back.new.home c.go_back-way_back.result) e.ledger
-        (subst (λ x. GoesBack (F x) (G x) l (any_ledger c.make_events.result.0) m.script.now c.go_back-way_back.new.script m.home.now c.go_back-way_back.new.home c.go_back-way_back.result) (c.inner.ensures ∙ rev) back);
+          (subst (λ x. GoesBack (F x) (G x) l (any_ledger c.make_events.result.0) m.script.now c.go_back-way_back.new.script m.home.now c.go_back-way_back.new.home c.go_back-way_back.result) (c.inner.ensures ∙ rev) back);
       second = e.second;
       loans = ((refl, refl), (refl, refl), (refl, refl), (refl, refl), (refl, refl), (refl, refl));
     }
