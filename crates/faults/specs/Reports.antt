@@ -7,7 +7,7 @@ use Rattle.lattice.specs.Refusals.{start_number}
 use Rattle.faults.specs.declared.field.FieldFault.{FieldFault}
 use Rattle.faults.specs.declared.field.FieldFault.TheVariants.{NotANumber, WrongDigits}
 use Rattle.faults.specs.declared.record.RecordFault.{RecordFault}
-use Rattle.faults.specs.declared.record.RecordFault.TheVariants.{Field, TooLong, Unfinished, UnknownWord, FieldCount, NotPermitted, EndsInSession, Start, MissingLine, CellsTooShort}
+use Rattle.faults.specs.declared.record.RecordFault.TheVariants.{Field, TooLong, Unfinished, UnknownWord, FieldCount, NotPermitted, EndsInSession, Start, MissingLine, UnknownMap, CellsTooShort}
 use Rattle.faults.specs.declared.run.BenchRefusal.{BenchRefusal}
 use Rattle.faults.specs.declared.run.BenchRefusal.TheVariants.{Cells, StepCount, NothingToUndo, NothingToRedo, OffLattice, Mask, JournalFull}
 use Rattle.faults.specs.declared.run.RunFault.{RunFault}
@@ -31,6 +31,7 @@ record_report (NotPermitted i) = reported 2 25 i 0
 record_report (EndsInSession i) = reported 2 26 i 0
 record_report (Start e i) = reported 2 (start_number e) i 0
 record_report (MissingLine i) = reported 2 32 i 0
+record_report (UnknownMap i) = reported 2 9 i 2
 record_report CellsTooShort = reported 2 30 0 0
 
 abbrev pub bench_number : BenchRefusal → ℕ

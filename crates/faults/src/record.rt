@@ -27,6 +27,8 @@ pub enum RecordFault {
     Start { cause: StartRefusal, line: usize },
     #[error("line {line} is missing")]
     MissingLine { line: usize },
+    #[error("line {line}: no map has this name")]
+    UnknownMap { line: usize },
     #[error("the cells memory is too short")]
     CellsTooShort,
 }

@@ -59,6 +59,7 @@ impl From<RecordFault> for Report {
             RecordFault::EndsInSession { line } => of_record(26, line, 0),
             RecordFault::Start { cause, line } => of_record(u8::from(cause), line, 0),
             RecordFault::MissingLine { line } => of_record(32, line, 0),
+            RecordFault::UnknownMap { line } => of_record(9, line, 2),
             RecordFault::CellsTooShort => of_record(30, 0, 0),
         }
     }

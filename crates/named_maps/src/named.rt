@@ -2,7 +2,7 @@
 ghost use Rattle.std.specs.Prelude.{◌≡◌};
 ghost use Rattle.lattice.specs.Cells.{OnlyBelow};
 ghost use Rattle.lattice.specs.Starts.{held};
-ghost use Rattle.named_maps.specs.Choice.{forward_of, backward_of};
+ghost use Rattle.named_maps.specs.Choice.{name_of, map_named, forward_of, backward_of};
 ghost use Rattle.named_maps.specs.Laws.{laws_of};
 
 use crate::blocks::{bbm, critters, tron};
@@ -18,6 +18,41 @@ pub enum NamedMap {
     Tron,
     Life2,
     Mixed,
+}
+
+const ALL: [NamedMap; 5] = [
+    NamedMap::Bbm,
+    NamedMap::Critters,
+    NamedMap::Tron,
+    NamedMap::Life2,
+    NamedMap::Mixed,
+];
+
+impl NamedMap {
+    // The name of the map.
+    pub fn name(self) -> &'static str
+        ensures { result.now ≡ name_of self }
+    {
+        match self {
+            NamedMap::Bbm => "bbm",
+            NamedMap::Critters => "critters",
+            NamedMap::Tron => "tron",
+            NamedMap::Life2 => "life2",
+            NamedMap::Mixed => "mixed",
+        }
+    }
+
+    // The map that has this name.
+    pub fn of(name: &[u8]) -> Option<NamedMap>
+        ensures { result ≡ map_named name.now }
+    {
+        for map in ALL {
+            if name == map.name().as_bytes() {
+                return Some(map);
+            }
+        }
+        None
+    }
 }
 
 // A `match` for each direction: maps in a list would have to be boxed, and nothing here allocates.

@@ -4,7 +4,7 @@ use Rattle.faults.proofs.Joined.{went_on}
 use Rattle.text.proofs.WholeTexts.{whole_accepted, whole_passes, whole_refused}
 use Rattle.faults.specs.Results.{◌>>=◌}
 use Rattle.faults.specs.declared.record.RecordFault.{RecordFault}
-use Rattle.faults.specs.declared.record.RecordFault.TheVariants.{Field, TooLong, Unfinished, UnknownWord, FieldCount, NotPermitted, EndsInSession, Start, MissingLine, CellsTooShort}
+use Rattle.faults.specs.declared.record.RecordFault.TheVariants.{Field, TooLong, Unfinished, UnknownWord, FieldCount, NotPermitted, EndsInSession, Start, MissingLine, UnknownMap, CellsTooShort}
 use Rattle.text.proofs.EndedLines.{text_is_its_lines, lines_free, finished_joined}
 use Rattle.text.specs.Lines.{lines}
 use Rattle.text.specs.Wholes.{max_text, finished, whole}
@@ -50,6 +50,7 @@ placed n bs (NotPermitted i) w l = (w, l)
 placed n bs (EndsInSession i) w l = absurd l.fault
 placed n bs (Start c i) w l = (w, l)
 placed n bs (MissingLine i) w l = (w, l)
+placed n bs (UnknownMap i) w l = (w, l)
 placed n bs CellsTooShort w l = (w, l)
 
 fault_of_lines : (n : ℕ) (bs : List ℕ) (e : RecordFault) → IsWhole bs → FaultFrom Rest n (lines bs) e → TextFault n bs e
