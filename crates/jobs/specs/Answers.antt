@@ -1,0 +1,37 @@
+-- What the calls that take jobs answer.
+--     JobOpened a bs old new r     r is what opening the job a answers, whose text is bs; a memory of `old` then holds `new`
+--     JobTold j r                  r is what running the job j answers
+--     JobMade j cs r               the same, and the cells are cs then
+--     JobRun a old new r           r is what running the job a answers, and a memory of `old` then holds `new`
+use Rattle.std.specs.Prelude.{◌≡◌, ℕ, ◌≤◌, List, ◌++◌, length, drop, Result, Ok, Err}
+use Rattle.faults.specs.declared.record.RecordFault.{RecordFault}
+use Rattle.faults.specs.declared.run.RunFault.{RunFault}
+use Rattle.faults.specs.declared.run.RunFault.TheVariants.{Record}
+use Rattle.lattice.specs.Starts.{StartOf}
+use Rattle.ledger.specs.Ledgers.{counts}
+use Rattle.jobs.specs.Jobs.{Job}
+use Rattle.jobs.specs.Outcomes.{answer, outcome}
+use Rattle.jobs.specs.Steps.{Opens}
+use Rattle.jobs.specs.declared.job.Done.{Done}
+use Rattle.jobs.specs.declared.opening.Opening.{Opening}
+
+-- a memory of `old` holds the cells cs, and behind them what it held
+abbrev pub Filled : List ℕ → List ℕ → List ℕ → Type 0
+Filled cs old new = (length cs ≤ length old) × (new ≡ cs ++ drop (length cs) old)
+
+abbrev pub JobOpened : Result Job RecordFault → List ℕ → List ℕ → List ℕ → Result Opening RecordFault → Type 0
+JobOpened (Ok j) bs old new (Ok o) = Opens j bs o × Filled j.lattice.cells old new
+JobOpened (Ok j) bs old new (Err e) = ⊥
+JobOpened (Err d) bs old new (Ok o) = ⊥
+JobOpened (Err d) bs old new (Err e) = (e ≡ d) × (new ≡ old)
+
+abbrev pub JobTold : Job → Result Done RunFault → Type 0
+JobTold j (Ok d) = (answer j ≡ Ok d.made) × StartOf (outcome j).lattice d.start × (d.counts ≡ counts (outcome j).ledger (outcome j).lattice.phase)
+JobTold j (Err e) = answer j ≡ Err e
+
+abbrev pub JobMade : Job → List ℕ → Result Done RunFault → Type 0
+JobMade j cs r = JobTold j r × (cs ≡ (outcome j).lattice.cells)
+
+abbrev pub JobRun : Result Job RecordFault → List ℕ → List ℕ → Result Done RunFault → Type 0
+JobRun (Ok j) old new r = JobTold j r × Filled (outcome j).lattice.cells old new
+JobRun (Err e) old new r = (r ≡ Err (Record e)) × (new ≡ old)

@@ -1,0 +1,4 @@
+pub mod Answers
+pub mod Jobs
+pub mod Outcomes
+pub mod Steps

@@ -1,0 +1,47 @@
+// The run of a job.
+ghost use Rattle.std.specs.Prelude.{◌≡◌, length};
+ghost use Rattle.jobs.specs.Answers.{JobRun, JobMade};
+ghost use Rattle.jobs.specs.Jobs.{Job, job};
+ghost use Rattle.jobs.specs.Steps.{Opens, OpenedOn};
+
+use crate::opening::{Opening, open_job};
+use bench::bench::{Bench, Counts};
+use faults::run::RunFault;
+use lattice::start::Start;
+use runs::run::run;
+
+// What a job came to whose records were all made: the start record of the lattice that is held, how many records were made, and what the count call answers.
+#[derive(Clone, Copy, PartialEq, Eq, Debug)]
+pub struct Done {
+    pub start: Start,
+    pub made: usize,
+    pub counts: Counts,
+}
+
+// Makes the records of a job that was opened.
+#[tactic(auto, using(crate::proofs::JobsMade::job_made, crate::proofs::JobsMade::job_stopped))]
+fn make_job(opening: &Opening, text: &[u8], cells: &mut [u8]) -> Result<Done, RunFault>
+    requires { OpenedOn text.now opening.now cells.old }
+    ensures { (j : Job) → Opens j text.now opening.now → cells.old ≡ j.lattice.cells → JobMade j cells.new result }
+{
+    let bench = Bench::new(&opening.map, opening.start);
+    let script = &text[opening.script_at..];
+    let (bench, answer) = run(bench, cells, script, opening.script_line);
+    match answer {
+        Ok(made) => Ok(Done {
+            start: bench.start(),
+            made,
+            counts: bench.counts(),
+        }),
+        Err(fault) => Err(fault),
+    }
+}
+
+// Runs the job on a new bench, in the first cells of the memory.
+#[tactic(auto, using(crate::proofs::JobsRun::asks, crate::proofs::JobsRun::job_ran))]
+pub fn run_job(text: &[u8], cells: &mut [u8]) -> Result<Done, RunFault>
+    ensures { JobRun (job (length cells.old) text.now) cells.old cells.new result }
+{
+    let opening = open_job(text, cells)?;
+    make_job(&opening, text, &mut cells[..opening.start.cell_count()])
+}

@@ -1,0 +1,7 @@
+// Jobs: a map, a board and a script in one text.
+#![tactic(auto)]
+
+mod find;
+pub mod job;
+mod map_line;
+pub mod opening;

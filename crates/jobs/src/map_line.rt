@@ -1,0 +1,42 @@
+// The first line of a job.
+ghost use Rattle.std.specs.Prelude.{◌≡◌, ℕ, List, ok_or};
+ghost use Rattle.named_maps.specs.Choice.{map_named};
+ghost use Rattle.text.specs.FieldsOfLines.{HasFields, StandsFrom};
+ghost use Rattle.jobs.specs.Jobs.{map_at};
+ghost use Rattle.jobs.specs.Steps.{MapFound};
+
+use faults::record::RecordFault;
+use named_maps::named::NamedMap;
+use text::line::Line;
+use text::reader::Reader;
+
+const MAP: &[u8] = b"map";
+
+pub(crate) const FIRST_LINE: u32 = 1;
+
+// The map that a map line names, or its first fault.
+fn map_of(line: Line<'_>) -> Result<NamedMap, RecordFault>
+    ensures { (n : ℕ) (fs : List (List ℕ)) → HasFields line.entry fs → StandsFrom line.entry n 1 → result ≡ map_at n fs }
+{
+    let at = line.word().place().line;
+    if line.word().bytes() != MAP {
+        return Err(RecordFault::UnknownWord { line: at });
+    }
+    let Line::Two(_, name) = line else {
+        return Err(RecordFault::FieldCount { line: at });
+    };
+    NamedMap::of(name.bytes()).ok_or(RecordFault::UnknownMap { line: at })
+}
+
+// The map of a job, and where its board begins.
+#[tactic(auto, using(crate::proofs::MapLines::no_map, crate::proofs::MapLines::a_map))]
+pub(crate) fn find_map(text: &[u8]) -> Result<(NamedMap, usize), RecordFault>
+    ensures { MapFound text.now result }
+{
+    let mut reader = Reader::new(text, FIRST_LINE);
+    let Some(line) = reader.next_line() else {
+        return Err(RecordFault::MissingLine { line: 1 });
+    };
+    let map = map_of(line)?;
+    Ok((map, reader.position()))
+}
