@@ -18,7 +18,7 @@ use Rattle.jobs.specs.Answers.{JobMade}
 use Rattle.jobs.specs.Jobs.{Job}
 use Rattle.jobs.specs.Outcomes.{opened, answer, outcome}
 use Rattle.jobs.specs.Steps.{Opens}
-use Rattle.jobs.specs.declared.job.Done.{Done}
+use Rattle.jobs.specs.declared.done.Done.{Done}
 use Rattle.jobs.specs.declared.opening.Opening.{Opening}
 
 -- the bench b is opened as the job says, and given its script

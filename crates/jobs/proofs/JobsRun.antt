@@ -9,7 +9,7 @@ use Rattle.jobs.specs.Answers.{Filled, JobOpened, JobMade, JobRun}
 use Rattle.jobs.specs.Jobs.{Job}
 use Rattle.jobs.specs.Outcomes.{outcome}
 use Rattle.jobs.specs.Steps.{Opens, OpenedOn}
-use Rattle.jobs.specs.declared.job.Done.{Done}
+use Rattle.jobs.specs.declared.done.Done.{Done}
 use Rattle.jobs.specs.declared.opening.Opening.{Opening}
 
 -- the job that was opened

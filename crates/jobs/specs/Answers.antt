@@ -12,7 +12,7 @@ use Rattle.ledger.specs.Ledgers.{counts}
 use Rattle.jobs.specs.Jobs.{Job}
 use Rattle.jobs.specs.Outcomes.{answer, outcome}
 use Rattle.jobs.specs.Steps.{Opens}
-use Rattle.jobs.specs.declared.job.Done.{Done}
+use Rattle.jobs.specs.declared.done.Done.{Done}
 use Rattle.jobs.specs.declared.opening.Opening.{Opening}
 
 -- a memory of `old` holds the cells cs, and behind them what it held

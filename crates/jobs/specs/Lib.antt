@@ -2,3 +2,4 @@ pub mod Answers
 pub mod Jobs
 pub mod Outcomes
 pub mod Steps
+pub mod Texts

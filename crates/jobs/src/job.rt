@@ -4,19 +4,11 @@ ghost use Rattle.jobs.specs.Answers.{JobRun, JobMade};
 ghost use Rattle.jobs.specs.Jobs.{Job, job};
 ghost use Rattle.jobs.specs.Steps.{Opens, OpenedOn};
 
+use crate::done::Done;
 use crate::opening::{Opening, open_job};
-use bench::bench::{Bench, Counts};
+use bench::bench::Bench;
 use faults::run::RunFault;
-use lattice::start::Start;
 use runs::run::run;
-
-// What a job came to whose records were all made: the start record of the lattice that is held, how many records were made, and what the count call answers.
-#[derive(Clone, Copy, PartialEq, Eq, Debug)]
-pub struct Done {
-    pub start: Start,
-    pub made: usize,
-    pub counts: Counts,
-}
 
 // Makes the records of a job that was opened.
 #[tactic(auto, using(crate::proofs::JobsMade::job_made, crate::proofs::JobsMade::job_stopped))]

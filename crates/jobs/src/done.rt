@@ -1,0 +1,25 @@
+// What a job comes to whose records were all made.
+ghost use Rattle.std.specs.Prelude.{Some};
+ghost use Rattle.jobs.specs.Texts.{done_text};
+
+use bench::bench::Counts;
+use lattice::start::Start;
+use std::fmt;
+
+#[derive(Clone, Copy, PartialEq, Eq, Debug)]
+pub struct Done {
+    // The start record of the lattice that is held.
+    pub start: Start,
+    // How many records were made, and what the count call answers then.
+    pub made: usize,
+    pub counts: Counts,
+}
+
+impl fmt::Display for Done {
+    ghost output = { λ d. Some (done_text d) };
+
+    fn fmt<W: fmt::Write>(&self, f: &mut fmt::Formatter<W>) -> fmt::Result {
+        let (standing, undone, clock, _) = self.counts;
+        write!(f, "done\t{}\t{clock}\t{standing}\t{undone}", self.made)
+    }
+}
