@@ -42,7 +42,7 @@ HOME = answers("the opening board yes", "the clock negated yes")
 check(
     "home and mirror",
     home_and_mirror(EXAMPLE),
-    text_of("done 5 0 3 0", "home 5 0 3 0", *HEAD[1:]) + HOME + text_of("mirror 0 3 0") + SAME,
+    text_of("done 5 0 3 0", "board 2 2 0", "row 0001", "row 0100", "home 5 0 3 0", *HEAD[1:]) + HOME + text_of("mirror 0 3 0") + SAME,
 )
 # critters, forward from one cell and then back, as on the page on the maps; an undo that stays
 undone = text_of("map critters", *HEAD[1:], "step 1", "open", "flip 1 0 128", "close", "undo")
@@ -50,14 +50,14 @@ check("lab, undone", lab(undone), text_of("done 5 1 1 1", "board 2 2 1", "row 00
 check(
     "home and mirror, undone",
     home_and_mirror(undone),
-    text_of("done 5 1 1 1", "home 1 -1 1 0", *HEAD[1:]) + HOME + text_of("mirror -1 1 1") + SAME,
+    text_of("done 5 1 1 1", "board 2 2 1", "row 0001", "row 0101", "home 1 -1 1 0", *HEAD[1:]) + HOME + text_of("mirror -1 1 1") + SAME,
 )
 empty = text_of("map mixed", "board 2 2 1", "row 01ff", "row 0203")
 check("lab, an empty script", lab(empty), text_of("done 0 0 0 0", "board 2 2 1", "row 01ff", "row 0203"))
 check(
     "home and mirror, an empty script",
     home_and_mirror(empty),
-    text_of("done 0 0 0 0", "home 0 0 0 0", "board 2 2 1", "row 01ff", "row 0203")
+    text_of("done 0 0 0 0", "board 2 2 1", "row 01ff", "row 0203", "home 0 0 0 0", "board 2 2 1", "row 01ff", "row 0203")
     + HOME
     + text_of("mirror 0 0 0")
     + SAME,
@@ -429,18 +429,20 @@ for size, text in job_vectors.vectors:
 
 def check_home_and_mirror(what, text):
     """What is printed of a job that is done, told from the output of `lab` and from the job itself."""
-    _, made, clock, standing, undone = lab(text).split(b"\n")[0].split(b"\t")
+    done = lab(text)
+    _, _, clock, standing, undone = done.split(b"\n")[0].split(b"\t")
     lines = text.split(b"\n")
     height = int(lines[1].split(b"\t")[2])
-    printed = home_and_mirror(text).split(b"\n")
+    everything = home_and_mirror(text)
     negated = b"%d" % -int(clock)
-    check(f"{what}: done", printed[0].split(b"\t"), [b"done", made, clock, standing, undone])
-    home = printed[1].split(b"\t")
+    check(f"{what}: what lab prints", everything[: len(done)], done)
+    printed = everything[len(done) :].split(b"\n")
+    home = printed[0].split(b"\t")
     check(f"{what}: home", (home[0], home[2:]), (b"home", [negated, standing, b"0"]))
-    check(f"{what}: the opening board", printed[2 : 3 + height], lines[1 : 2 + height])
+    check(f"{what}: the opening board", printed[1 : 2 + height], lines[1 : 2 + height])
     mirror = b"\t".join([b"mirror", negated, standing, undone])
     rest = HOME + mirror + b"\n" + SAME
-    check(f"{what}: the answers", b"\n".join(printed[3 + height :]), rest)
+    check(f"{what}: the answers", b"\n".join(printed[2 + height :]), rest)
 
 
 causes = Counter()

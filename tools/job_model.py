@@ -168,7 +168,7 @@ def home_and_mirror(text):
     done, fault = run_job(text, [0] * model.LARGEST_AREA)
     if fault is not None:
         return fault_line(fault)
-    return done_line(done) + home_lines(done) + mirror_lines(done)
+    return lab(text) + home_lines(done) + mirror_lines(done)
 
 
 PROGRAMS = {"lab": lab, "home_and_mirror": home_and_mirror}

@@ -1,4 +1,4 @@
-"""Files, arguments and output of the program `job_files`, computed by the model.
+"""Files, arguments and output of the program `home_and_mirror`, computed by the model.
 
 With `args` it prints the names of the files, one on a line, in the order in which the program gets
 them, and with `stdout` what the program must print for them. With the name of a folder it writes the
@@ -243,7 +243,7 @@ FILES = [
 
 
 def printed(name, text):
-    return job_model.printed_line("job", name) + job_model.lab(text) + job_model.home_and_mirror(text)
+    return job_model.printed_line("job", name) + job_model.home_and_mirror(text)
 
 
 if __name__ == "__main__":

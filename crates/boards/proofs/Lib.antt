@@ -1,4 +1,5 @@
 pub mod BoardLaws
+pub mod BoardLengths
 pub mod BoardLines
 pub mod Found
 pub mod Hex

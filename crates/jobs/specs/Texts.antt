@@ -1,8 +1,8 @@
--- What is printed of a job that was made: the word `done`, and how many records were made, the clock, how many actions stand and how many were undone, in
--- decimal, parted by tabs.
-use Rattle.std.specs.Prelude.{List, ℕ, ◌++◌, codes}
+-- What is printed of a job that was made.
+--     done_text n c     the word `done`, n, which is how many records were made, and of the counts c the clock, how many actions stand and how many were
+--                       undone: in decimal, parted by tabs
+use Rattle.std.specs.Prelude.{List, ℕ, ℤ, ◌++◌, codes}
 use Rattle.std.specs.Fmt.{decimal, signed_decimal}
-use Rattle.jobs.specs.declared.done.Done.{Done}
 
-abbrev pub done_text : Done → List ℕ
-done_text d = codes "done\t" ++ decimal d.made ++ codes "\t" ++ signed_decimal d.counts.2 ++ codes "\t" ++ decimal d.counts.0 ++ codes "\t" ++ decimal d.counts.1
+abbrev pub done_text : ℕ → (ℕ × ℕ × ℤ × ℕ) → List ℕ
+done_text n c = codes "done\t" ++ decimal n ++ codes "\t" ++ signed_decimal c.2 ++ codes "\t" ++ decimal c.0 ++ codes "\t" ++ decimal c.1

@@ -16,7 +16,7 @@ pub struct Done {
 }
 
 impl fmt::Display for Done {
-    ghost output = { λ d. Some (done_text d) };
+    ghost output = { λ d. Some (done_text d.made d.counts) };
 
     fn fmt<W: fmt::Write>(&self, f: &mut fmt::Formatter<W>) -> fmt::Result {
         let (standing, undone, clock, _) = self.counts;

@@ -1,0 +1,62 @@
+// A job, its way home and its mirror, all by one call for its whole life.
+use crate::shown::{show_home, show_mirror};
+use anyhow::Context;
+use job_texts::lab_text::lab_text;
+use jobs::job::run_job;
+use jobs::opening::{Opening, open_job};
+use lives::event::{Event, Lent};
+use lives::life::live;
+use lives::memories::Memories;
+use scripts::records::Records;
+use std::alloc::Global;
+use std::io;
+use std::io::Write;
+
+const MAX_CELLS: usize = 16_384;
+
+// Always enough for a reverse script.
+const MAX_SCRIPT: usize = 7_168;
+
+// The records of the job, each handed the cells of its bench.
+fn events_of(job: &[u8], opening: &Opening, heap: Global) -> anyhow::Result<Vec<Event>> {
+    let script = job.get(opening.script_at..).context("there is no script")?;
+    let mut records = Records::new(script, opening.script_line);
+    let mut events = Vec::new(heap);
+    for _ in 0..script.len() {
+        let Some(record) = records.next_record()? else {
+            break;
+        };
+        events.push(Event {
+            call: record,
+            lent: Lent::Own,
+        })?;
+    }
+    Ok(events)
+}
+
+// What `lab` prints, and if the job is made, the way home and the mirror.
+pub(crate) fn try_job(rt: &HostRuntime, job: &[u8]) -> anyhow::Result<()> {
+    io::writer(rt).write_all(&lab_text(job, rt.alloc())?)?;
+    let mut cells = vec![in rt.alloc(); 0u8; MAX_CELLS]?;
+    if run_job(job, &mut cells).is_err() {
+        return Ok(());
+    }
+    let opening = open_job(job, &mut cells)?;
+    cells.truncate(opening.start.cell_count());
+    let first = cells.clone()?;
+    let mut mirror = vec![in rt.alloc(); 0u8; cells.len()]?;
+    let mut home = vec![in rt.alloc(); 0u8; cells.len()]?;
+    let mut script = vec![in rt.alloc(); 0u8; MAX_SCRIPT]?;
+    let events = events_of(job, &opening, rt.alloc())?;
+    let mut memories = Memories {
+        cells: &mut cells,
+        mirror: &mut mirror,
+        home: &mut home,
+        second: &mut [],
+        script: &mut script,
+        seen: &mut [],
+    };
+    let outcome = live(opening.map, opening.start, &events, &mut memories)?;
+    show_home(rt, &outcome, (&opening.start, &first), &home)?;
+    show_mirror(rt, &outcome, &cells, &mirror)
+}

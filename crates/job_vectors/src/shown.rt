@@ -1,0 +1,46 @@
+// What is printed of one job.
+use crate::case::Case;
+use faults::report::Report;
+use job_texts::lab_text::lab_text;
+use jobs::done::Done;
+use jobs::job::run_job;
+use samples::cells::digest;
+
+// The memory before the job is run.
+fn memory_before(rt: &HostRuntime, room: usize) -> anyhow::Result<Vec<u8>> {
+    let mut cells = Vec::new(rt.alloc());
+    let mut next = 0u8;
+    for _ in 0..room {
+        cells.push(next)?;
+        next = next.wrapping_add(7);
+    }
+    Ok(cells)
+}
+
+fn show_done(rt: &HostRuntime, done: &Done) -> anyhow::Result<()> {
+    let (standing, undone, clock, phase) = done.counts;
+    let (width, height) = (done.start.width(), done.start.height());
+    print!(rt;
+        "done {} {clock} {standing} {undone} {width} {height} {phase}",
+        done.made
+    )?;
+    Ok(())
+}
+
+fn show_fault(rt: &HostRuntime, report: &Report) -> anyhow::Result<()> {
+    let (layer, number) = (report.layer, report.number);
+    print!(rt; "fault {layer} {number} {} {}", report.line, report.field)?;
+    Ok(())
+}
+
+// How the job went, what the memory holds, and what `lab` prints for it.
+pub(crate) fn show(rt: &HostRuntime, case: &Case) -> anyhow::Result<()> {
+    let mut cells = memory_before(rt, case.room)?;
+    match run_job(&case.job, &mut cells) {
+        Ok(done) => show_done(rt, &done)?,
+        Err(fault) => show_fault(rt, &Report::from(fault))?,
+    }
+    let text = lab_text(&case.job, rt.alloc())?;
+    println!(rt; " {} {} {}", digest(&cells), text.len(), digest(&text))?;
+    Ok(())
+}
