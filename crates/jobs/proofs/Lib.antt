@@ -1,6 +1,9 @@
+pub mod BoardLimits
 pub mod BoardsFound
+pub mod JobLaws
 pub mod JobParts
 pub mod JobsFound
 pub mod JobsMade
 pub mod JobsRun
+pub mod MapLineLaws
 pub mod MapLines

@@ -1,5 +1,6 @@
 pub mod Answers
 pub mod Jobs
+pub mod Laws
 pub mod Outcomes
 pub mod Steps
 pub mod Texts

@@ -1,7 +1,9 @@
 // What a job opens with.
-ghost use Rattle.std.specs.Prelude.{length};
-ghost use Rattle.jobs.specs.Answers.{JobOpened};
-ghost use Rattle.jobs.specs.Jobs.{job};
+ghost use Rattle.std.specs.Prelude.{length, IfOk};
+ghost use Rattle.jobs.specs.Answers.{JobOpened, Filled};
+ghost use Rattle.jobs.specs.Jobs.{Job, job};
+ghost use Rattle.jobs.specs.Laws.{IsJob};
+ghost use Rattle.jobs.specs.Steps.{Opens};
 
 use crate::find::{BOARD_LINE, below, find_job};
 use boards::read::read_board;
@@ -18,12 +20,22 @@ pub struct Opening {
     pub script_line: u32,
 }
 
-// Reads a job: its map, and its board into the first cells of the memory. No cell is written before the whole text is checked.
+// Finds the job, and only then reads its board.
 #[tactic(auto, using(crate::proofs::JobParts::not_refused, crate::proofs::JobParts::opened))]
-pub fn open_job(text: &[u8], cells: &mut [u8]) -> Result<Opening, RecordFault>
+fn open_into(text: &[u8], cells: &mut [u8]) -> Result<Opening, RecordFault>
     ensures { JobOpened (job (length cells.old) text.now) text.now cells.old cells.new result }
 {
     let (opening, board_at) = find_job(text, cells.len())?;
     read_board(below(text, board_at), BOARD_LINE, cells)?;
     Ok(opening)
+}
+
+// Reads a job: its map, and its board into the first cells of the memory. No cell is written before the whole text is checked.
+#[tactic(auto, using(crate::proofs::JobLaws::opened_was))]
+pub fn open_job(text: &[u8], cells: &mut [u8]) -> Result<Opening, RecordFault>
+    ensures answer { JobOpened (job (length cells.old) text.now) text.now cells.old cells.new result }
+    // only what is written of a job is opened, byte for byte
+    ensures only { IfOk result (λ o. (j : Job) × IsJob j text.now × Opens j text.now o × Filled j.lattice.cells cells.old cells.new) }
+{
+    open_into(text, cells)
 }
