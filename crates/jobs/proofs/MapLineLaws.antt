@@ -1,18 +1,21 @@
--- A map line that is read names its map as it is written. Assumes nothing.
+-- A map line that is read was written for its map, and one that is written is read as its map. Assumes nothing.
 use Rattle.std.proofs.Common.{ap₂, ◌≡◌, ℕ, ◌<◌, Bool, true, false, cond, eqb, List, [], ◌∷◌, ◌++◌, length, Some, Ok, codes, slice_index_or, arith, refl, sym, ◌∙◌, ap}
 use Rattle.std.proofs.lemmas.Bool.{eqb-true}
-use Rattle.std.proofs.lemmas.List.{append_assoc}
+use Rattle.std.proofs.lemmas.List.{append_assoc, append-nil}
 use Rattle.std.proofs.lemmas.Slice.Eq.{bytes_eq-Decides}
-use Rattle.std.specs.List.{find}
+use Rattle.std.specs.List.{AllByRecursion, find}
 use Rattle.std.specs.Str.{bytes_eq}
 use Rattle.boards.specs.Reading.{on_first}
 use Rattle.faults.proofs.Joined.{passed, was_some}
 use Rattle.faults.specs.declared.record.RecordFault.TheVariants.{UnknownMap}
 use Rattle.named_maps.specs.Choice.{all_maps, name_of, map_named}
 use Rattle.named_maps.specs.declared.named.NamedMap.{NamedMap}
-use Rattle.text.proofs.EndedLines.{first_ended, ended_by_fields}
+use Rattle.named_maps.specs.declared.named.NamedMap.TheVariants.{Bbm, Critters, Tron, Life2, Mixed}
+use Rattle.text.proofs.Cuts.{Free, after_front, after_yes}
+use Rattle.text.proofs.EndedLines.{first_ended, ended_by_fields, fields_of_parted, lines_of_front}
+use Rattle.text.proofs.LineFields.{tabless, parted_free}
 use Rattle.text.proofs.LinesLeft.{lines_cons}
-use Rattle.text.specs.Lines.{first_line, below_first, lines, fields}
+use Rattle.text.specs.Lines.{is_newline, is_separator, first_line, below_first, lines, parted, fields}
 use Rattle.text.specs.Wholes.{finished}
 use Rattle.jobs.specs.Jobs.{named_at, map_at}
 use Rattle.jobs.specs.Laws.{map_line}
@@ -50,3 +53,37 @@ map_line_was (b ∷ bs) m ends is =
     first_ended (b ∷ bs) some ends
     ∙ sym (append_assoc (first_line (b ∷ bs)) (10 ∷ []) (below_first (b ∷ bs)))
     ∙ ap (λ l. l ++ below_first (b ∷ bs)) (ended_by_fields (first_line (b ∷ bs)) (codes "map" ∷ name_of m ∷ []) (fields_were 1 (fields (first_line (b ∷ bs))) m first))
+
+-- a map line that is written
+abbrev pub map_content : NamedMap → List ℕ
+map_content m = parted (codes "map" ∷ name_of m ∷ [])
+
+name_free : (m : NamedMap) → Free is_separator (name_of m)
+name_free Bbm = (refl, (refl, (refl, tt)))
+name_free Critters = (refl, (refl, (refl, (refl, (refl, (refl, (refl, (refl, tt))))))))
+name_free Tron = (refl, (refl, (refl, (refl, tt))))
+name_free Life2 = (refl, (refl, (refl, (refl, (refl, tt)))))
+name_free Mixed = (refl, (refl, (refl, (refl, (refl, tt)))))
+
+fields_free : (m : NamedMap) → AllByRecursion (Free is_separator) (codes "map" ∷ name_of m ∷ [])
+fields_free m = ((refl, (refl, (refl, tt))), (name_free m, tt))
+
+content_free : (m : NamedMap) → Free is_newline (map_content m)
+content_free m = parted_free (codes "map" ∷ name_of m ∷ []) (fields_free m)
+
+map_taken : (m : NamedMap) → map_at 1 (codes "map" ∷ name_of m ∷ []) ≡ Ok m
+map_taken Bbm = refl
+map_taken Critters = refl
+map_taken Tron = refl
+map_taken Life2 = refl
+map_taken Mixed = refl
+
+pub map_line_taken : (m : NamedMap) (more : List ℕ) → on_first map_at 1 (lines (map_line m ++ more)) ≡ Ok m
+map_line_taken m more =
+    let first : lines (map_line m ++ more) ≡ map_content m ∷ lines more = ap (λ l. lines (l ++ more)) (sym (append-nil (map_line m))) ∙ lines_of_front (map_content m ∷ []) more (content_free m, tt) in
+    ap (on_first map_at 1) first
+    ∙ ap (map_at 1) (fields_of_parted (codes "map") (name_of m ∷ []) (tabless (codes "map" ∷ name_of m ∷ []) (fields_free m)))
+    ∙ map_taken m
+
+pub below_map_line : (m : NamedMap) (more : List ℕ) → below_first (map_line m ++ more) ≡ more
+below_map_line m more = ap below_first (append_assoc (map_content m) (10 ∷ []) more) ∙ after_front is_newline (map_content m) (10 ∷ more) (content_free m) ∙ after_yes is_newline 10 more refl

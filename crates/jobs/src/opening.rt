@@ -1,5 +1,5 @@
 // What a job opens with.
-ghost use Rattle.std.specs.Prelude.{length, IfOk};
+ghost use Rattle.std.specs.Prelude.{◌≤◌, length, Ok, IfOk};
 ghost use Rattle.jobs.specs.Answers.{JobOpened, Filled};
 ghost use Rattle.jobs.specs.Jobs.{Job, job};
 ghost use Rattle.jobs.specs.Laws.{IsJob};
@@ -31,9 +31,11 @@ fn open_into(text: &[u8], cells: &mut [u8]) -> Result<Opening, RecordFault>
 }
 
 // Reads a job: its map, and its board into the first cells of the memory. No cell is written before the whole text is checked.
-#[tactic(auto, using(crate::proofs::JobLaws::opened_was))]
+#[tactic(auto, using(crate::proofs::JobLaws::written_is_opened, crate::proofs::JobLaws::opened_was))]
 pub fn open_job(text: &[u8], cells: &mut [u8]) -> Result<Opening, RecordFault>
     ensures answer { JobOpened (job (length cells.old) text.now) text.now cells.old cells.new result }
+    // a job that is written is opened as it
+    ensures written { (j : Job) → IsJob j text.now → length j.lattice.cells ≤ length cells.old → JobOpened (Ok j) text.now cells.old cells.new result }
     // only what is written of a job is opened, byte for byte
     ensures only { IfOk result (λ o. (j : Job) × IsJob j text.now × Opens j text.now o × Filled j.lattice.cells cells.old cells.new) }
 {
