@@ -1,7 +1,7 @@
 -- A board that is read is within the limits. Assumes nothing.
 use Rattle.std.proofs.Common.{◌≡◌, ℕ, suc, zero, ◌*◌, Bool, true, false, ◌&&◌, cond, leb, List, [], ◌∷◌, Some, None, Ok, arith, refl}
-use Rattle.std.proofs.lemmas.Bool.{leb-true}
 use Rattle.std.proofs.lemmas.Bool.Decides.{nat_tests}
+use Rattle.std.proofs.lemmas.Bool.{leb-true}
 use Rattle.boards.proofs.BoardLaws.{BoardWas, board_read_from}
 use Rattle.boards.proofs.HexText.{AreBytes}
 use Rattle.boards.specs.Reading.{board, board_from}

@@ -1,29 +1,28 @@
 -- What is read as a job is, byte for byte, the writing of it; and what is written of a job is read as it. Assumes nothing.
 use Rattle.std.proofs.Common.{◌≡◌, ℕ, ◌≤◌, List, ◌∷◌, ◌++◌, length, drop, map, flat_map, true, Ok, Err, Result, IfOk, arith, refl, sym, ◌∙◌, ap, ap₂, subst}
 use Rattle.std.proofs.Math.Nat.{mul_comm}
-use Rattle.std.proofs.lemmas.List.{drop_at, length-append}
+use Rattle.std.proofs.lemmas.Bool.{le-leb}
 use Rattle.std.proofs.lemmas.Grind.{flat_map-append}
+use Rattle.std.proofs.lemmas.List.{drop_at, length-append}
 use Rattle.boards.proofs.BoardLaws.{start_content, row_content, rows_joined}
 use Rattle.boards.proofs.Found.{board_count}
-use Rattle.boards.specs.Boards.{rows, start_line, board_text}
-use Rattle.faults.specs.declared.record.RecordFault.{RecordFault}
-use Rattle.lattice.specs.Lattice.{Lattice, Whole, Within}
-use Rattle.std.proofs.lemmas.Bool.{le-leb}
 use Rattle.boards.proofs.RoundTrips.{written_board}
 use Rattle.boards.specs.Answers.{BeginsWith}
+use Rattle.boards.specs.Boards.{rows, start_line, board_text}
 use Rattle.boards.specs.Reading.{on_first, board}
 use Rattle.faults.specs.Results.{◌>>=◌}
+use Rattle.faults.specs.declared.record.RecordFault.{RecordFault}
+use Rattle.lattice.specs.Lattice.{Lattice, Whole, Within}
 use Rattle.scripts.proofs.ScriptLaws.{accepted, taken}
 use Rattle.scripts.proofs.ScriptLines.{content_of, script_of_lines}
+use Rattle.scripts.specs.Judgements.{script}
+use Rattle.scripts.specs.Laws.{IsScript}
 use Rattle.scripts.specs.Records.{script_of}
 use Rattle.scripts.specs.declared.record.Record.{Record}
 use Rattle.text.proofs.EndedLines.{finished_joined}
-use Rattle.text.specs.Lines.{ended}
-use Rattle.text.specs.Wholes.{max_text, finished, whole}
-use Rattle.scripts.specs.Judgements.{script}
-use Rattle.scripts.specs.Laws.{IsScript}
 use Rattle.text.proofs.WholeTexts.{whole_accepted, whole_passes}
-use Rattle.text.specs.Lines.{below_first, lines}
+use Rattle.text.specs.Lines.{below_first, lines, ended}
+use Rattle.text.specs.Wholes.{max_text, finished, whole}
 use Rattle.jobs.proofs.BoardLimits.{board_within}
 use Rattle.jobs.proofs.BoardsFound.{board_begins}
 use Rattle.jobs.proofs.JobParts.{JobParts, job_parts}
@@ -34,6 +33,7 @@ use Rattle.jobs.specs.Laws.{map_line, job_text, IsJob}
 use Rattle.jobs.specs.Steps.{Opens}
 use Rattle.jobs.specs.declared.opening.Opening.{Opening}
 
+-- what was read
 pub job_was : (k : ℕ) (bs : List ℕ) (j : Job) → job k bs ≡ Ok j → IsJob j bs
 job_was k bs j is =
     let p : JobParts k bs j = job_parts k bs j is in
@@ -58,7 +58,7 @@ opened_was_at bs old new (Ok o) (Ok j) is opened = (j, job_was (length old) bs j
 pub opened_was : (bs old new : List ℕ) (r : Result Opening RecordFault) → JobOpened (job (length old) bs) bs old new r → IfOk r (λ o. (j : Job) × IsJob j bs × Opens j bs o × Filled j.lattice.cells old new)
 opened_was bs old new r opened = opened_was_at bs old new r (job (length old) bs) refl opened
 
--- board and script are their lines
+-- what is written: board and script are their lines
 module _ (l : Lattice) (rs : List Record) where
   board_lines : List (List ℕ)
   board_lines = start_content l.width l.height l.phase ∷ map row_content (rows l.width l.height l.cells)

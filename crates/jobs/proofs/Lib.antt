@@ -1,9 +1,11 @@
 pub mod BoardLimits
 pub mod BoardsFound
+pub mod Helds
 pub mod JobLaws
 pub mod JobParts
 pub mod JobsFound
 pub mod JobsMade
 pub mod JobsRun
+pub mod JobsStand
 pub mod MapLineLaws
 pub mod MapLines

@@ -9,8 +9,8 @@ use Rattle.boards.specs.Reading.{on_first}
 use Rattle.faults.proofs.Joined.{passed, was_some}
 use Rattle.faults.specs.declared.record.RecordFault.TheVariants.{UnknownMap}
 use Rattle.named_maps.specs.Choice.{all_maps, name_of, map_named}
-use Rattle.named_maps.specs.declared.named.NamedMap.{NamedMap}
 use Rattle.named_maps.specs.declared.named.NamedMap.TheVariants.{Bbm, Critters, Tron, Life2, Mixed}
+use Rattle.named_maps.specs.declared.named.NamedMap.{NamedMap}
 use Rattle.text.proofs.Cuts.{Free, after_front, after_yes}
 use Rattle.text.proofs.EndedLines.{first_ended, ended_by_fields, fields_of_parted, lines_of_front}
 use Rattle.text.proofs.LineFields.{tabless, parted_free}

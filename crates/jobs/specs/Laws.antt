@@ -1,20 +1,29 @@
--- Jobs in the words of who writes them, apart from how a text is read.
---     map_line m      the line that names the map m
---     job_text j      the text of the job j: the line of its map, its board, its script
---     IsJob j bs      bs is the text of the job j: its board is within the limits, its records may come one after another, from rest to rest,
---                     their numbers have at most six digits, and bs is short enough
-use Rattle.std.specs.Prelude.{◌≡◌, ℕ, ◌≤◌, List, [], ◌∷◌, ◌++◌, length, codes}
+-- Jobs in the words of who writes and runs them, apart from how a text is read and how a record is made.
+--     map_line m              the line that names the map m
+--     job_text j              the text of the job j: the line of its map, its board, its script
+--     IsJob j bs              bs is the text of the job j: its board is within the limits, its records may come one after another, from rest to
+--                             rest, their numbers have at most six digits, and bs is short enough
+--     standing_board j        the board of the job j with the actions made on it, oldest first, that stand when its records were run
+--     StandsOn j old new r    running the job j answers r and leaves `new` in a memory of `old`: it is the standing board that is left, and no
+--                             session is open
+use Rattle.std.specs.Prelude.{◌≡◌, ℕ, ◌≤◌, List, [], ◌∷◌, ◌++◌, length, codes, Result, IfOk}
 use Rattle.std.specs.List.{AllByRecursion}
 use Rattle.boards.specs.Boards.{board_text}
-use Rattle.lattice.specs.Lattice.{Whole, Within}
-use Rattle.named_maps.specs.Choice.{name_of}
+use Rattle.faults.specs.declared.run.RunFault.{RunFault}
+use Rattle.lattice.specs.Lattice.{Lattice, Whole, Within}
+use Rattle.lattice.specs.Starts.{StartOf}
+use Rattle.ledger.specs.Effects.{standing_for}
+use Rattle.named_maps.specs.Choice.{name_of, forward_of, backward_of}
 use Rattle.named_maps.specs.declared.named.NamedMap.{NamedMap}
 use Rattle.scripts.specs.Records.{script_of, Writable}
 use Rattle.scripts.specs.States.{Leads}
 use Rattle.scripts.specs.declared.state.State.TheVariants.{Rest}
 use Rattle.text.specs.Lines.{ended, parted}
 use Rattle.text.specs.Wholes.{max_text}
+use Rattle.jobs.specs.Answers.{Filled}
 use Rattle.jobs.specs.Jobs.{Job}
+use Rattle.jobs.specs.Outcomes.{outcome}
+use Rattle.jobs.specs.declared.job.Done.{Done}
 
 abbrev pub map_line : NamedMap → List ℕ
 map_line m = ended (parted (codes "map" ∷ name_of m ∷ []))
@@ -29,3 +38,10 @@ pub record IsJob (j : Job) (bs : List ℕ) : Type 0 where
   pub writable : AllByRecursion Writable j.records
   pub text : bs ≡ job_text j
   pub short : length bs ≤ max_text
+
+abbrev pub standing_board : Job → Lattice
+standing_board j = standing_for (forward_of j.map) (backward_of j.map) (outcome j).ledger j.lattice
+
+unfoldable pub StandsOn : Job → List ℕ → List ℕ → Result Done RunFault → Type 0
+StandsOn j old new r =
+    ((outcome j).ledger.state ≡ Rest) × ((outcome j).ledger.session ≡ []) × Filled (standing_board j).cells old new × IfOk r (λ d. StartOf (standing_board j) d.start)

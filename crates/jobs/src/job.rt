@@ -1,7 +1,8 @@
 // The run of a job.
-ghost use Rattle.std.specs.Prelude.{◌≡◌, length};
+ghost use Rattle.std.specs.Prelude.{◌≡◌, ◌≤◌, length};
 ghost use Rattle.jobs.specs.Answers.{JobRun, JobMade};
 ghost use Rattle.jobs.specs.Jobs.{Job, job};
+ghost use Rattle.jobs.specs.Laws.{IsJob, StandsOn};
 ghost use Rattle.jobs.specs.Steps.{Opens, OpenedOn};
 
 use crate::done::Done;
@@ -29,11 +30,21 @@ fn make_job(opening: &Opening, text: &[u8], cells: &mut [u8]) -> Result<Done, Ru
     }
 }
 
-// Runs the job on a new bench, in the first cells of the memory.
+// Opens the job and makes its records, in the first cells of the memory.
 #[tactic(auto, using(crate::proofs::JobsRun::asks, crate::proofs::JobsRun::job_ran))]
-pub fn run_job(text: &[u8], cells: &mut [u8]) -> Result<Done, RunFault>
+fn run_opened(text: &[u8], cells: &mut [u8]) -> Result<Done, RunFault>
     ensures { JobRun (job (length cells.old) text.now) cells.old cells.new result }
 {
     let opening = open_job(text, cells)?;
     make_job(&opening, text, &mut cells[..opening.start.cell_count()])
+}
+
+// Runs the job on a new bench, in the first cells of the memory.
+#[tactic(auto, using(crate::proofs::JobsStand::job_stands))]
+pub fn run_job(text: &[u8], cells: &mut [u8]) -> Result<Done, RunFault>
+    ensures answer { JobRun (job (length cells.old) text.now) cells.old cells.new result }
+    // what is held then is what the actions that stand make of the job's board, and no session is left open
+    ensures held { (j : Job) → IsJob j text.now → length j.lattice.cells ≤ length cells.old → StandsOn j cells.old cells.new result }
+{
+    run_opened(text, cells)
 }

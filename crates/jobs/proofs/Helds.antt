@@ -1,0 +1,91 @@
+-- What a bench holds after a run is what the actions that stand make of what it was opened on, and it rests. Assumes nothing.
+--     Stands f g l s     the ledger of s is sound, and what is held is what it says, if l was the lattice of the opening
+use Rattle.std.proofs.Common.{◌≡◌, Bool, true, false, cond, List, [], ◌∷◌, length, Some, None, Option, refl, sym, ap, ap₂, ◌∙◌, subst}
+use Rattle.any_bench.specs.Calls.{booked_if, made_if}
+use Rattle.any_bench.specs.Scenes.{Scene, after_call, after_calls}
+use Rattle.faults.specs.declared.run.BenchRefusal.{BenchRefusal}
+use Rattle.lattice.specs.Lattice.{Lattice, Within, SameShape}
+use Rattle.lattice.specs.Maps.{Reversible}
+use Rattle.ledger.proofs.Held.{moved_held}
+use Rattle.ledger.proofs.Shapes.{standing_shape}
+use Rattle.ledger.proofs.Sound.{Sound, sound_at_opening, after_sound}
+use Rattle.ledger.specs.Effects.{effect, standing_for}
+use Rattle.ledger.specs.Ledgers.{Ledger, at_opening, booked}
+use Rattle.ledger.specs.Refusals.{refusal, if_accepted, after}
+use Rattle.runs.specs.Runs.{closed_if}
+use Rattle.scripts.specs.Records.{kind_of}
+use Rattle.scripts.specs.States.{permits}
+use Rattle.scripts.specs.declared.record.Record.TheVariants as Call
+use Rattle.scripts.specs.declared.record.Record.{Record}
+use Rattle.scripts.specs.declared.state.State.TheVariants.{Rest, Session}
+use Rattle.scripts.specs.declared.state.State.{State}
+
+pub record Stands (f g : Lattice → Lattice) (l : Lattice) (s : Scene) : Type 0 where
+  pub sound : Sound l.width l.height s.ledger
+  pub held : s.lattice ≡ standing_for f g s.ledger l
+
+by_test : {A : Type 0} (P : A → Type 0) (b : Bool) (x y : A) → (b ≡ true → P x) → P y → P (cond b x y)
+by_test P true x y passes fails = passes refl
+by_test P false x y passes fails = fails
+
+-- both cases of a test at once
+at_test : (b : Bool) (d : Option BenchRefusal) (x y : Ledger) (p q : Lattice) (F : Ledger → Lattice) → (b ≡ true → if_accepted d p q ≡ F (if_accepted d x y)) → q ≡ F y → cond b (if_accepted d p q) q ≡ F (cond b (if_accepted d x y) y)
+at_test true d x y p q F passes fails = passes refl
+at_test false d x y p q F passes fails = fails
+
+same_state : (b : Bool) (d : Option BenchRefusal) (x y : Ledger) → x.state ≡ y.state → (cond b (if_accepted d x y) y).state ≡ y.state
+same_state false d x y same = refl
+same_state true None x y same = same
+same_state true (Some e) x y same = refl
+
+module _ (f g : Lattice → Lattice) (laws : Reversible f g) (l : Lattice) (inside : Within l) where
+  -- a call that is handed what the ledger says
+  module _ (c : Record) (led : Ledger) (s : Sound l.width l.height led) where
+    shape : SameShape l (standing_for f g led l)
+    shape = standing_shape f g laws l.width l.height led l s inside
+
+    booked_is : booked_if (standing_for f g led l) c led ≡ cond (permits led.state (kind_of c)) (after l.width l.height (length (standing_for f g led l).cells) c led) led
+    booked_is = ap₂ (λ w h. cond (permits led.state (kind_of c)) (after w h (length (standing_for f g led l).cells) c led) led) shape.width shape.height
+
+    sound_then : Sound l.width l.height (booked_if (standing_for f g led l) c led)
+    sound_then =
+        let n = length (standing_for f g led l).cells in
+        subst (Sound l.width l.height) (sym booked_is) (by_test (Sound l.width l.height) (permits led.state (kind_of c)) (after l.width l.height n c led) led (λ may. after_sound l.width l.height n c led may s) s)
+
+    held_then : made_if f g c led (standing_for f g led l) ≡ standing_for f g (booked_if (standing_for f g led l) c led) l
+    held_then =
+        let m = standing_for f g led l in
+        let d = refusal l.width l.height (length m.cells) c led in
+        ap₂ (λ w h. cond (permits led.state (kind_of c)) (if_accepted (refusal w h (length m.cells) c led) (effect f g c led m) m) m) shape.width shape.height
+        ∙ at_test (permits led.state (kind_of c)) d (booked c led) led (effect f g c led m) m (λ x. standing_for f g x l) (λ may. moved_held f g laws l.width l.height c led l may s inside d) refl
+        ∙ ap (λ x. standing_for f g x l) (sym booked_is)
+
+    stands_at : Stands f g l (after_call f g c (record { ledger = led; lattice = standing_for f g led l }))
+    stands_at = record { sound = sound_then; held = held_then }
+
+  stands_then : (c : Record) (s : Scene) → Stands f g l s → Stands f g l (after_call f g c s)
+  stands_then c s now = subst (λ (m : Lattice). Stands f g l (after_call f g c (record { ledger = s.ledger; lattice = m }))) (sym now.held) (stands_at c s.ledger now.sound)
+
+  pub stands_after : (cs : List Record) (s : Scene) → Stands f g l s → Stands f g l (after_calls f g s cs)
+  stands_after [] s now = now
+  stands_after (c ∷ cs) s now = stands_after cs (after_call f g c s) (stands_then c s now)
+
+  pub stands_closed : (t : State) (s : Scene) → Stands f g l s → Stands f g l (closed_if t f g s)
+  stands_closed Rest s now = now
+  stands_closed Session s now = stands_then Call.Close (after_call f g Call.Clear s) (stands_then Call.Clear s now)
+
+pub stands_opened : (f g : Lattice → Lattice) (l : Lattice) → Stands f g l (record { ledger = at_opening; lattice = l })
+stands_opened f g l = record { sound = sound_at_opening l.width l.height; held = refl }
+
+-- a session that is cleared and closed leaves the bench at rest
+cleared : (f g : Lattice → Lattice) (s : Scene) → (after_call f g Call.Clear s).ledger.state ≡ s.ledger.state
+cleared f g s =
+    let l = s.lattice in
+    same_state (permits s.ledger.state (kind_of Call.Clear)) (refusal l.width l.height (length l.cells) Call.Clear s.ledger) (booked Call.Clear s.ledger) s.ledger refl
+
+closed : (f g : Lattice → Lattice) (s : Scene) → s.ledger.state ≡ Session → (after_call f g Call.Close s).ledger.state ≡ Rest
+closed f g s is = ap (λ t. (cond (permits t (kind_of Call.Close)) (booked Call.Close s.ledger) s.ledger).state) is
+
+pub rests_closed : (f g : Lattice → Lattice) (t : State) (s : Scene) → s.ledger.state ≡ t → (closed_if t f g s).ledger.state ≡ Rest
+rests_closed f g Rest s is = is
+rests_closed f g Session s is = closed f g (after_call f g Call.Clear s) (cleared f g s ∙ is)

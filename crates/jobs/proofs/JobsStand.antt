@@ -1,0 +1,44 @@
+-- A job that was run leaves what the actions that stand make of its board. Assumes nothing.
+use Rattle.std.proofs.Common.{◌≡◌, ℕ, ◌≤◌, List, length, Ok, Err, Result, IfOk, refl, subst}
+use Rattle.any_bench.specs.Scenes.{Scene, after_calls}
+use Rattle.faults.specs.declared.record.RecordFault.{RecordFault}
+use Rattle.faults.specs.declared.run.RunFault.{RunFault}
+use Rattle.lattice.specs.Lattice.{Lattice, Within}
+use Rattle.lattice.specs.Starts.{StartOf}
+use Rattle.named_maps.specs.Choice.{forward_of, backward_of}
+use Rattle.named_maps.specs.Laws.{laws_of}
+use Rattle.runs.specs.Runs.{first_refused, made_of}
+use Rattle.scripts.specs.declared.state.State.TheVariants.{Rest}
+use Rattle.jobs.proofs.Helds.{Stands, stands_opened, stands_after, stands_closed, rests_closed}
+use Rattle.jobs.proofs.JobLaws.{job_written}
+use Rattle.jobs.specs.Answers.{Filled, JobTold, JobRun}
+use Rattle.jobs.specs.Jobs.{Job, job}
+use Rattle.jobs.specs.Laws.{IsJob, standing_board, StandsOn}
+use Rattle.jobs.specs.Outcomes.{opened, outcome}
+use Rattle.jobs.specs.declared.job.Done.{Done}
+
+-- what is held when the records were made, before a session that is open is closed
+abbrev made : Job → Scene
+made j = after_calls (forward_of j.map) (backward_of j.map) (opened j) (made_of (first_refused (forward_of j.map) (backward_of j.map) (opened j) j.records) j.records)
+
+pub outcome_stands : (j : Job) → Within j.lattice → Stands (forward_of j.map) (backward_of j.map) j.lattice (outcome j)
+outcome_stands j within =
+    let f = forward_of j.map in
+    let g = backward_of j.map in
+    let laws = laws_of j.map in
+    stands_closed f g laws j.lattice within (made j).ledger.state (made j)
+    (stands_after f g laws j.lattice within (made_of (first_refused f g (opened j) j.records) j.records) (opened j) (stands_opened f g j.lattice))
+
+pub outcome_rests : (j : Job) → (outcome j).ledger.state ≡ Rest
+outcome_rests j = rests_closed (forward_of j.map) (backward_of j.map) (made j).ledger.state (made j) refl
+
+start_stands : (j : Job) (r : Result Done RunFault) → JobTold j r → (outcome j).lattice ≡ standing_board j → IfOk r (λ d. StartOf (standing_board j) d.start)
+start_stands j (Err e) told is = tt
+start_stands j (Ok d) told is = subst (λ (m : Lattice). StartOf m d.start) is told.1
+
+pub job_stands : (bs old new : List ℕ) (r : Result Done RunFault) (j : Job) → JobRun (job (length old) bs) old new r → IsJob j bs → length j.lattice.cells ≤ length old → StandsOn j old new r
+unfolding StandsOn
+job_stands bs old new r j ran is room =
+    let run : JobRun (Ok j) old new r = subst (λ (a : Result Job RecordFault). JobRun a old new r) (job_written (length old) bs j is room) ran in
+    let stands = outcome_stands j is.within in
+    (outcome_rests j, stands.sound.at_rest (outcome_rests j), subst (λ (m : Lattice). Filled m.cells old new) stands.held run.1, start_stands j r run.0 stands.held)
