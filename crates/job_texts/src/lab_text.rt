@@ -54,6 +54,7 @@ fn done_text(done: &Done, cells: &[u8], heap: Global) -> Result<Vec<u8>, AllocEr
 }
 
 // What is printed of a job that is run in these cells.
+#[tactic(auto, using(crate::proofs::Saids::cells_inside, crate::proofs::Saids::whole_held, crate::proofs::Saids::text_is))]
 fn text_in(job: &[u8], cells: &mut [u8], heap: Global) -> Result<Vec<u8>, AllocError>
     ensures { IfOk result (λ v. v.items ≡ text_of (length cells.old) job.now) }
 {

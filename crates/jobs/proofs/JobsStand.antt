@@ -1,21 +1,23 @@
 -- A job that was run leaves what the actions that stand make of its board. Assumes nothing.
-use Rattle.std.proofs.Common.{◌≡◌, ℕ, ◌≤◌, List, length, Ok, Err, Result, IfOk, refl, subst}
+use Rattle.std.proofs.Common.{◌≡◌, ℕ, ◌≤◌, List, length, Ok, Err, Result, IfOk, refl, sym, subst}
 use Rattle.any_bench.specs.Scenes.{Scene, after_calls}
 use Rattle.faults.specs.declared.record.RecordFault.{RecordFault}
 use Rattle.faults.specs.declared.run.RunFault.{RunFault}
-use Rattle.lattice.specs.Lattice.{Lattice, Within}
+use Rattle.lattice.proofs.Wholes.{same_shape_whole}
+use Rattle.lattice.specs.Lattice.{Lattice, Whole, Within}
 use Rattle.lattice.specs.Starts.{StartOf}
+use Rattle.ledger.proofs.Shapes.{standing_shape}
 use Rattle.named_maps.specs.Choice.{forward_of, backward_of}
 use Rattle.named_maps.specs.Laws.{laws_of}
 use Rattle.runs.specs.Runs.{first_refused, made_of}
 use Rattle.scripts.specs.declared.state.State.TheVariants.{Rest}
 use Rattle.jobs.proofs.Helds.{Stands, stands_opened, stands_after, stands_closed, rests_closed}
-use Rattle.jobs.proofs.JobLaws.{job_written}
+use Rattle.jobs.proofs.JobLaws.{job_was, job_written}
 use Rattle.jobs.specs.Answers.{Filled, JobTold, JobRun}
 use Rattle.jobs.specs.Jobs.{Job, job}
 use Rattle.jobs.specs.Laws.{IsJob, standing_board, StandsOn}
 use Rattle.jobs.specs.Outcomes.{opened, outcome}
-use Rattle.jobs.specs.declared.job.Done.{Done}
+use Rattle.jobs.specs.declared.done.Done.{Done}
 
 -- what is held when the records were made, before a session that is open is closed
 abbrev made : Job → Scene
@@ -42,3 +44,11 @@ job_stands bs old new r j ran is room =
     let run : JobRun (Ok j) old new r = subst (λ (a : Result Job RecordFault). JobRun a old new r) (job_written (length old) bs j is room) ran in
     let stands = outcome_stands j is.within in
     (outcome_rests j, stands.sound.at_rest (outcome_rests j), subst (λ (m : Lattice). Filled m.cells old new) stands.held run.1, start_stands j r run.0 stands.held)
+
+-- the lattice that is held has a cell for each column of each row
+pub outcome_whole : (k : ℕ) (bs : List ℕ) (j : Job) → job k bs ≡ Ok j → Whole (outcome j).lattice
+outcome_whole k bs j is =
+    let l = job_was k bs j is in
+    let stands = outcome_stands j l.within in
+    let shape = standing_shape (forward_of j.map) (backward_of j.map) (laws_of j.map) j.lattice.width j.lattice.height (outcome j).ledger j.lattice stands.sound l.within in
+    subst Whole (sym stands.held) (same_shape_whole j.lattice (standing_board j) shape l.whole)

@@ -23,7 +23,7 @@ use Rattle.text.specs.Wholes.{max_text}
 use Rattle.jobs.specs.Answers.{Filled}
 use Rattle.jobs.specs.Jobs.{Job}
 use Rattle.jobs.specs.Outcomes.{outcome}
-use Rattle.jobs.specs.declared.job.Done.{Done}
+use Rattle.jobs.specs.declared.done.Done.{Done}
 
 abbrev pub map_line : NamedMap → List ℕ
 map_line m = ended (parted (codes "map" ∷ name_of m ∷ []))
