@@ -19,17 +19,8 @@ def text_of(*lines):
 # --- Jobs that are done ---------------------------------------------------------------------------
 
 # the worked example of docs/PROGRAMS.md
-FIRST_LINES = [
-    "map bbm",
-    "board 2 2 0",
-    "row 0100",
-    "row 0000",
-    "step 1",
-    "open",
-    "flip 0 0 1",
-    "close",
-    "step -1",
-]
+ONE_CELL = ["map bbm", "board 2 2 0", "row 0100", "row 0000"]
+FIRST_LINES = [*ONE_CELL, "step 1", *["open", "flip 0 0 1", "close"], "step -1"]
 
 
 def drawn_row(signs):

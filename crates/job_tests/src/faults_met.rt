@@ -93,7 +93,7 @@ fn a_memory_that_is_too_short(rt: HostRuntime) {
 // Behind the map line and three lines of a board the script begins with line 5.
 #[test]
 fn faults_of_the_script(rt: HostRuntime) {
-    let cases: [(&[u8], (u8, u8, usize, usize)); 13] = [
+    let cases: [(&[u8], (u8, u8, usize, usize)); 7] = [
         (
             b"map\tbbm\nboard\t2\t2\t0\nrow\t0000\nrow\t0000\nrow\t0000\n",
             (2, 23, 5, 1),
@@ -122,6 +122,15 @@ fn faults_of_the_script(rt: HostRuntime) {
             b"map\tbbm\nboard\t2\t2\t0\nrow\t0000\nrow\t0000\nstep\t0\nopen\n",
             (2, 26, 7, 0),
         ),
+    ];
+    for (job, numbers) in cases {
+        assert_eq!(rt; fault(job, 8), Some(numbers));
+    }
+}
+
+#[test]
+fn faults_of_its_run(rt: HostRuntime) {
+    let cases: [(&[u8], (u8, u8, usize, usize)); 6] = [
         (
             b"map\tbbm\nboard\t2\t2\t0\nrow\t0000\nrow\t0000\nstep\t0\n",
             (3, 11, 5, 0),
