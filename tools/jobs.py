@@ -18,7 +18,7 @@ def text_of(*lines):
 
 # --- Jobs that are done ---------------------------------------------------------------------------
 
-# the worked example of docs/PROGRAMS.md
+# the worked example of README.md
 ONE_CELL = ["map bbm", "board 2 2 0", "row 0100", "row 0000"]
 FIRST_LINES = [*ONE_CELL, "step 1", *["open", "flip 0 0 1", "close"], "step -1"]
 

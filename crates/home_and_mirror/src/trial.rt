@@ -1,4 +1,4 @@
-// A job, its way home and its mirror, all by one call for its whole life.
+// A job, its way home and its mirror, which one call makes for its whole life.
 use crate::shown::{show_home, show_mirror};
 use anyhow::Context;
 use job_texts::lab_text::lab_text;
@@ -17,7 +17,7 @@ const MAX_CELLS: usize = 16_384;
 // Always enough for a reverse script.
 const MAX_SCRIPT: usize = 7_168;
 
-// The records of the job, each handed the cells of its bench.
+// The records of the job, each handed the cells of its bench. A script has fewer records than bytes.
 fn events_of(job: &[u8], opening: &Opening, heap: Global) -> anyhow::Result<Vec<Event>> {
     let script = job.get(opening.script_at..).context("there is no script")?;
     let mut records = Records::new(script, opening.script_line);

@@ -1,6 +1,8 @@
 // Every fault that a job can have, at its place.
 use faults::report::Report;
 use jobs::job::run_job;
+use std::alloc::{AllocError, Global};
+use std::test::Fail;
 
 // Layer, number, line and field of the job's fault.
 fn fault(job: &[u8], room: usize) -> Option<(u8, u8, usize, usize)> {
@@ -159,4 +161,27 @@ fn faults_of_its_run(rt: HostRuntime) {
     for (job, numbers) in cases {
         assert_eq!(rt; fault(job, 8), Some(numbers));
     }
+}
+
+// One byte too many is told before all else.
+#[test]
+fn a_job_of_one_byte_too_many(rt: HostRuntime) {
+    assert_eq!(rt; fault(&[b'\n'; 65_536], 8), Some((2, 23, 1, 1)));
+    assert_eq!(rt; fault(&[b'\n'; 65_537], 8), Some((2, 20, 0, 0)));
+}
+
+fn steps(count: usize, heap: Global) -> Result<Vec<u8>, AllocError> {
+    let mut job = Vec::new(heap);
+    job.extend_from_slice(b"map\tbbm\nboard\t2\t2\t0\nrow\t0000\nrow\t0000\n")?;
+    for _ in 0..count {
+        job.extend_from_slice(b"step\t1\n")?;
+    }
+    Ok(job)
+}
+
+#[test]
+fn the_257th_entry(rt: HostRuntime) -> Result<(), Fail> {
+    assert_eq!(rt; fault(&steps(256, rt.alloc())?, 8), None);
+    assert_eq!(rt; fault(&steps(257, rt.alloc())?, 8), Some((3, 17, 261, 0)));
+    Ok(())
 }

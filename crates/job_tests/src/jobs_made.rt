@@ -1,10 +1,12 @@
 // Jobs whose records are all made.
 use jobs::done::Done;
 use jobs::job::run_job;
+use jobs::opening::open_job;
 use lattice::start::Start;
+use named_maps::named::NamedMap;
 use std::test::Fail;
 
-// One step of a two by two board with the upper left cell present. The first two are worked out by hand.
+// One step of a two by two board, empty for `tron` and else with the upper left cell present. All but `mixed` are worked out by hand.
 #[test]
 fn each_name_runs_its_map(rt: HostRuntime) -> Result<(), Fail> {
     let cases: [(&[u8], [u8; 4]); 4] = [
@@ -35,7 +37,7 @@ fn each_name_runs_its_map(rt: HostRuntime) -> Result<(), Fail> {
     Ok(())
 }
 
-// Four cells in a square have three neighbours each and stay, so all answers are 1.
+// Four cells in a square have three neighbours each, so the rule answers 1 to each of them; to all others it answers 0.
 #[test]
 fn life_is_lifted(rt: HostRuntime) -> Result<(), Fail> {
     let job =
@@ -47,7 +49,7 @@ fn life_is_lifted(rt: HostRuntime) -> Result<(), Fail> {
     Ok(())
 }
 
-fn is_empty(done: &Done) -> bool {
+fn nothing_was_made(done: &Done) -> bool {
     done.made == 0 && done.counts == (0, 0, 0, 1)
 }
 
@@ -60,7 +62,7 @@ fn a_script_may_be_empty(rt: HostRuntime) -> Result<(), Fail> {
         &mut cells,
     )?;
     assert_eq!(rt; done.start, Start::new(2, 2, 1)?);
-    assert!(rt; is_empty(&done));
+    assert!(rt; nothing_was_made(&done));
     assert_eq!(rt; cells, [1, 255, 2, 3, 9]);
     Ok(())
 }
@@ -74,5 +76,20 @@ fn actions_and_undone_ones_are_counted(rt: HostRuntime) -> Result<(), Fail> {
     let done = run_job(job, &mut cells)?;
     assert_eq!(rt; (done.made, done.counts), (10, (1, 2, 0, 0)));
     assert_eq!(rt; cells, [1, 0, 0, 128]);
+    Ok(())
+}
+
+// Map line, board's line and two rows have 38 bytes, and the script begins with line 5.
+#[test]
+fn a_job_is_opened(rt: HostRuntime) -> Result<(), Fail> {
+    let mut cells = [9; 5];
+    let opening = open_job(
+        b"map\tbbm\nboard\t2\t2\t1\nrow\t0102\nrow\t0304\nstep\t1\n",
+        &mut cells,
+    )?;
+    assert_eq!(rt; opening.map, NamedMap::Bbm);
+    assert_eq!(rt; opening.start, Start::new(2, 2, 1)?);
+    assert_eq!(rt; (opening.script_at, opening.script_line), (38, 5));
+    assert_eq!(rt; cells, [1, 2, 3, 4, 9]);
     Ok(())
 }

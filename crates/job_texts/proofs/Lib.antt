@@ -1,1 +1,1 @@
-pub mod Saids
+pub mod Printed

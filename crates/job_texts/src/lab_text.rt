@@ -1,7 +1,7 @@
 // What the program `lab` prints.
 ghost use Rattle.std.specs.Prelude.{◌≡◌, ◌≤◌, ◌+◌, ◌*◌, ◌++◌, length, take, IfOk};
 ghost use Rattle.boards.specs.Boards.{board_text};
-ghost use Rattle.job_texts.specs.Texts.{fault_line, text_of, lab_text};
+ghost use Rattle.job_texts.specs.Texts.{fault_line, printed_for, lab_text};
 ghost use Rattle.jobs.specs.Texts.{done_text};
 ghost use Rattle.text.specs.Lines.{ended};
 ghost use Rattle.lattice.specs.Lattice.{Whole};
@@ -54,9 +54,9 @@ fn done_text(done: &Done, cells: &[u8], heap: Global) -> Result<Vec<u8>, AllocEr
 }
 
 // What is printed of a job that is run in these cells.
-#[tactic(auto, using(crate::proofs::Saids::cells_inside, crate::proofs::Saids::whole_held, crate::proofs::Saids::text_is))]
+#[tactic(auto, using(crate::proofs::Printed::cells_inside, crate::proofs::Printed::whole_held, crate::proofs::Printed::text_is))]
 fn text_in(job: &[u8], cells: &mut [u8], heap: Global) -> Result<Vec<u8>, AllocError>
-    ensures { IfOk result (λ v. v.items ≡ text_of (length cells.old) job.now) }
+    ensures { IfOk result (λ v. v.items ≡ printed_for (length cells.old) job.now) }
 {
     match run_job(job, cells) {
         Ok(done) => done_text(&done, &cells[..done.start.cell_count()], heap),
@@ -71,7 +71,7 @@ fn max_cells() -> usize
     16_384
 }
 
-// All that the program `lab` prints for this job. Only for want of memory there is none.
+// All that the program `lab` prints for this job. An error is want of memory.
 pub fn lab_text(job: &[u8], heap: Global) -> Result<Vec<u8>, AllocError>
     ensures { IfOk result (λ v. v.items ≡ lab_text job.now) }
 {

@@ -36,8 +36,9 @@ job_parts k bs j is =
     let r = passed (leb (length l.0.cells) k) (Ok l.0) CellsTooShort b.0 l.2 in
     let same : l.0 ≡ b.0 = cc (r.1) in
     let s = went_on (script (script_line b.0) (drop (length (board_text b.0)) below)) (λ rs. Ok (record { map = m.0; lattice = b.0; records = rs })) j b.2 in
-    let made : record { map = m.0; lattice = b.0; records = s.0 } ≡ j = cc (s.2) in
-    subst (JobParts k bs) made (record {
+    let found : Job = record { map = m.0; lattice = b.0; records = s.0 } in
+    let made : found ≡ j = cc (s.2) in
+    subst (JobParts k bs) {x = found} made (record {
       whole = w.1;
       map = m.1;
       board = l.1 ∙ ap Ok same;

@@ -16,7 +16,7 @@ use Rattle.scripts.specs.Judgements.{script}
 use Rattle.scripts.specs.Runs.{risen}
 use Rattle.jobs.specs.Answers.{JobMade}
 use Rattle.jobs.specs.Jobs.{Job}
-use Rattle.jobs.specs.Outcomes.{opened, answer, outcome}
+use Rattle.jobs.specs.Outcomes.{first_scene, answer, outcome}
 use Rattle.jobs.specs.Steps.{Opens}
 use Rattle.jobs.specs.declared.done.Done.{Done}
 use Rattle.jobs.specs.declared.opening.Opening.{Opening}
@@ -26,7 +26,7 @@ module _ (j : Job) (bs cs rest : List ℕ) (o : Opening) (b : Bench NamedMap) (o
   lattice_is : held (start_of b) cs ≡ j.lattice
   lattice_is = ap₂ held start cells ∙ opens.start
 
-  scene_is : rest_scene b cs ≡ opened j
+  scene_is : rest_scene b cs ≡ first_scene j
   scene_is = ap₂ (λ x l. record { ledger = x; lattice = l }) ledger lattice_is
 
   map_is : map_of b ≡ j.map
@@ -38,13 +38,13 @@ module _ (j : Job) (bs cs rest : List ℕ) (o : Opening) (b : Bench NamedMap) (o
   told : run_answer (forward_of (map_of b)) (backward_of (map_of b)) (rest_scene b cs) o.script_line rest ≡ answer j
   told =
       ap₂ (λ m s. run_answer (forward_of m) (backward_of m) s o.script_line rest) map_is scene_is
-      ∙ ap (λ a. a >>= λ rs. answer_of o.script_line (first_refused (forward_of j.map) (backward_of j.map) (opened j) rs) rs) asked_is
-      ∙ ap (λ n. answer_of n (first_refused (forward_of j.map) (backward_of j.map) (opened j) j.records) j.records) opens.line
+      ∙ ap (λ a. a >>= λ rs. answer_of o.script_line (first_refused (forward_of j.map) (backward_of j.map) (first_scene j) rs) rs) asked_is
+      ∙ ap (λ n. answer_of n (first_refused (forward_of j.map) (backward_of j.map) (first_scene j) j.records) j.records) opens.line
 
   came_to : run_scene (forward_of (map_of b)) (backward_of (map_of b)) (rest_scene b cs) o.script_line rest ≡ outcome j
   came_to =
       ap₂ (λ m s. run_scene (forward_of m) (backward_of m) s o.script_line rest) map_is scene_is
-      ∙ ap (run_of (forward_of j.map) (backward_of j.map) (opened j)) asked_is
+      ∙ ap (run_of (forward_of j.map) (backward_of j.map) (first_scene j)) asked_is
 
   module _ (b' : Bench NamedMap) (cs' : List ℕ) (after : rest_scene b' cs' ≡ run_scene (forward_of (map_of b)) (backward_of (map_of b)) (rest_scene b cs) o.script_line rest) where
     ended : rest_scene b' cs' ≡ outcome j

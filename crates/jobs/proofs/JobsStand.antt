@@ -16,12 +16,12 @@ use Rattle.jobs.proofs.JobLaws.{job_was, job_written}
 use Rattle.jobs.specs.Answers.{Filled, JobTold, JobRun}
 use Rattle.jobs.specs.Jobs.{Job, job}
 use Rattle.jobs.specs.Laws.{IsJob, standing_board, StandsOn}
-use Rattle.jobs.specs.Outcomes.{opened, outcome}
+use Rattle.jobs.specs.Outcomes.{first_scene, outcome}
 use Rattle.jobs.specs.declared.done.Done.{Done}
 
 -- what is held when the records were made, before a session that is open is closed
 abbrev made : Job → Scene
-made j = after_calls (forward_of j.map) (backward_of j.map) (opened j) (made_of (first_refused (forward_of j.map) (backward_of j.map) (opened j) j.records) j.records)
+made j = after_calls (forward_of j.map) (backward_of j.map) (first_scene j) (made_of (first_refused (forward_of j.map) (backward_of j.map) (first_scene j) j.records) j.records)
 
 pub outcome_stands : (j : Job) → Within j.lattice → Stands (forward_of j.map) (backward_of j.map) j.lattice (outcome j)
 outcome_stands j within =
@@ -29,7 +29,7 @@ outcome_stands j within =
     let g = backward_of j.map in
     let laws = laws_of j.map in
     stands_closed f g laws j.lattice within (made j).ledger.state (made j)
-    (stands_after f g laws j.lattice within (made_of (first_refused f g (opened j) j.records) j.records) (opened j) (stands_opened f g j.lattice))
+    (stands_after f g laws j.lattice within (made_of (first_refused f g (first_scene j) j.records) j.records) (first_scene j) (stands_opened f g j.lattice))
 
 pub outcome_rests : (j : Job) → (outcome j).ledger.state ≡ Rest
 outcome_rests j = rests_closed (forward_of j.map) (backward_of j.map) (made j).ledger.state (made j) refl

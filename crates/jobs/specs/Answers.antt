@@ -1,4 +1,5 @@
 -- What the calls that take jobs answer.
+--     Filled cs old new            a memory of `old` then holds `new`: the cells cs, and behind them what it held
 --     JobOpened a bs old new r     r is what opening the job a answers, whose text is bs; a memory of `old` then holds `new`
 --     JobTold j r                  r is what running the job j answers
 --     JobMade j cs r               the same, and the cells are cs then
@@ -15,7 +16,6 @@ use Rattle.jobs.specs.Steps.{Opens}
 use Rattle.jobs.specs.declared.done.Done.{Done}
 use Rattle.jobs.specs.declared.opening.Opening.{Opening}
 
--- a memory of `old` holds the cells cs, and behind them what it held
 abbrev pub Filled : List ℕ → List ℕ → List ℕ → Type 0
 Filled cs old new = (length cs ≤ length old) × (new ≡ cs ++ drop (length cs) old)
 

@@ -1,10 +1,12 @@
 -- What a text says as a job.
 --     named_at n bs          the map with the name bs, which is field 2 of line n; or the fault that there is none
---     map_at n fs            the map by the fields fs of line n, or its first fault
+--     map_at n fs            the map by the fields fs of line n, or its first fault: a line with the word `map` and one field behind it
 --     Job                    a map, a lattice, and the records of a script
 --     if_room k l            the lattice l, if a memory of k bytes has room for its cells; else the fault that it is too short
 --     board_in k bs          the lattice with which bs, the text from line 2 on, begins, if there is room for its cells; or the first fault
 --     script_line l          the line on which a script begins behind the map line and the board of l
+--     job_below k m bs       the job over the map m whose board and script are the text bs, from line 2 on; or the first fault. The script stands behind the bytes
+--                            that the board is written with: each board has one writing
 --     job k bs               the job that the text bs is, where the cells memory has k bytes; or the first fault
 use Rattle.std.specs.Prelude.{ℕ, ◌+◌, List, [], length, drop, Result, Ok, Err, slice_index_or, ok_or, codes, nat_le, if◌then◌else◌}
 use Rattle.boards.specs.Boards.{board_text}
@@ -40,7 +42,6 @@ script_line l = 3 + l.height
 abbrev pub board_in : ℕ → List ℕ → Result Lattice RecordFault
 board_in k bs = board 2 bs >>= λ l. if_room k l
 
--- board and script, below the map line
 abbrev pub job_below : ℕ → NamedMap → List ℕ → Result Job RecordFault
 job_below k m bs = board_in k bs >>= λ l. script (script_line l) (drop (length (board_text l)) bs) >>= λ rs. Ok (record { map = m; lattice = l; records = rs })
 

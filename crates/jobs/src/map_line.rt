@@ -35,7 +35,9 @@ pub(crate) fn find_map(text: &[u8]) -> Result<(NamedMap, usize), RecordFault>
 {
     let mut reader = Reader::new(text, FIRST_LINE);
     let Some(line) = reader.next_line() else {
-        return Err(RecordFault::MissingLine { line: 1 });
+        return Err(RecordFault::MissingLine {
+            line: FIRST_LINE as usize,
+        });
     };
     let map = map_of(line)?;
     Ok((map, reader.position()))

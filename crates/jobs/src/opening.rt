@@ -34,7 +34,7 @@ fn open_into(text: &[u8], cells: &mut [u8]) -> Result<Opening, RecordFault>
 #[tactic(auto, using(crate::proofs::JobLaws::written_is_opened, crate::proofs::JobLaws::opened_was))]
 pub fn open_job(text: &[u8], cells: &mut [u8]) -> Result<Opening, RecordFault>
     ensures answer { JobOpened (job (length cells.old) text.now) text.now cells.old cells.new result }
-    // a job that is written is opened as it
+    // the writing of a job is opened as that job
     ensures written { (j : Job) → IsJob j text.now → length j.lattice.cells ≤ length cells.old → JobOpened (Ok j) text.now cells.old cells.new result }
     // only what is written of a job is opened, byte for byte
     ensures only { IfOk result (λ o. (j : Job) × IsJob j text.now × Opens j text.now o × Filled j.lattice.cells cells.old cells.new) }

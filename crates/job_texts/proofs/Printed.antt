@@ -12,7 +12,7 @@ use Rattle.jobs.specs.declared.done.Done.{Done}
 use Rattle.lattice.specs.Lattice.{Lattice, Whole}
 use Rattle.lattice.specs.Starts.{width_of, height_of, held}
 use Rattle.text.specs.Lines.{ended}
-use Rattle.job_texts.specs.Texts.{said, text_by, text_of}
+use Rattle.job_texts.specs.Texts.{printed_then, printed_by, printed_for}
 
 -- the job that was made
 record Made (k : ℕ) (bs old new : List ℕ) (d : Done) : Type 0 where
@@ -47,7 +47,7 @@ module _ (k : ℕ) (bs old new : List ℕ) (d : Done) (n : ℕ) (ran : JobRun (j
   pub whole_held : Whole (held d.start (take n new))
   whole_held = subst Whole (sym held_is) whole
 
-  pub text_is : ended (done_text d.made d.counts) ++ board_text (held d.start (take n new)) ≡ text_of k bs
+  pub text_is : ended (done_text d.made d.counts) ++ board_text (held d.start (take n new)) ≡ printed_for k bs
   text_is =
       ap₂ (λ c l. ended (done_text d.made c) ++ board_text l) made.told.2 held_is
-      ∙ sym (ap text_by made.is ∙ ap (λ a. said a (outcome made.made)) made.told.0)
+      ∙ sym (ap printed_by made.is ∙ ap (λ a. printed_then a (outcome made.made)) made.told.0)
