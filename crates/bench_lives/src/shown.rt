@@ -2,16 +2,13 @@
 use any_bench::answer::Answer;
 use anyhow::Context;
 use bench::bench::Counts;
-use boards::write::write_board;
+use boards::text::board_text;
 use lattice::start::Start;
 use lives::event::{Event, Lent, Seen, Told};
 use scripts::record::Record;
 use scripts::write::write_record;
 use std::io;
 use std::io::Write;
-
-// No board of this size has a longer text.
-const MAX_BOARD: usize = 256;
 
 // The longest record's line.
 const MAX_RECORD: usize = 38;
@@ -63,9 +60,12 @@ pub(crate) fn show_event(rt: &impl Print, event: Event, seen: Seen) -> anyhow::R
     show_record(rt, event.call)
 }
 
-pub(crate) fn show_board(rt: &impl Print, start: &Start, cells: &[u8]) -> anyhow::Result<()> {
-    let mut memory = [0u8; MAX_BOARD];
-    let len = write_board(start, cells, &mut memory).context("the board is not written")?;
-    io::writer(rt).write_all(&memory[..len])?;
+pub(crate) fn show_board(
+    rt: &(impl Print + Alloc),
+    start: &Start,
+    cells: &[u8],
+) -> anyhow::Result<()> {
+    let text = board_text(start, cells, rt.alloc())?.context("the cells are no whole lattice")?;
+    io::writer(rt).write_all(&text)?;
     Ok(())
 }

@@ -41,7 +41,7 @@ fn show_events(rt: &impl Print, events: &[Event], seen: &[Seen]) -> anyhow::Resu
 }
 
 fn show_journey(
-    rt: &impl Print,
+    rt: &(impl Print + Alloc),
     journey: &Journey,
     home: &[u8],
     script: &[u8],
@@ -61,7 +61,7 @@ fn show_journey(
 }
 
 fn show_way_back(
-    rt: &impl Print,
+    rt: &(impl Print + Alloc),
     way_back: &WayBack,
     home: &[u8],
     script: &[u8],

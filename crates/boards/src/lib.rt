@@ -7,4 +7,5 @@ mod lines;
 mod put;
 pub mod read;
 pub mod refusal;
+pub mod text;
 pub mod write;

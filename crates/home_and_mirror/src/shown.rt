@@ -1,19 +1,14 @@
 // What is printed of the way home and of the mirror.
 use anyhow::{Context, bail};
-use boards::write::write_board;
+use boards::text::board_text;
 use lattice::start::Start;
 use lives::outcome::{Outcome, WayBack};
 use std::io;
 use std::io::Write;
 
-// No board has a longer text.
-const MAX_BOARD: usize = 34_063;
-
 fn show_board(rt: &HostRuntime, start: &Start, cells: &[u8]) -> anyhow::Result<()> {
-    let mut memory = vec![in rt.alloc(); 0u8; MAX_BOARD]?;
-    let len = write_board(start, cells, &mut memory).context("the board is not written")?;
-    memory.truncate(len);
-    io::writer(rt).write_all(&memory)?;
+    let text = board_text(start, cells, rt.alloc())?.context("the cells are no whole lattice")?;
+    io::writer(rt).write_all(&text)?;
     Ok(())
 }
 

@@ -1,19 +1,18 @@
 // What the program `lab` prints.
-ghost use Rattle.std.specs.Prelude.{◌≡◌, ◌≤◌, ◌+◌, ◌*◌, ◌++◌, length, take, IfOk};
+ghost use Rattle.std.specs.Prelude.{◌≡◌, ◌++◌, length, IfOk};
 ghost use Rattle.boards.specs.Boards.{board_text};
 ghost use Rattle.job_texts.specs.Texts.{fault_line, printed_for, lab_text};
 ghost use Rattle.jobs.specs.Texts.{done_text};
 ghost use Rattle.text.specs.Lines.{ended};
 ghost use Rattle.lattice.specs.Lattice.{Whole};
 ghost use Rattle.lattice.specs.Limits.{max_area};
-ghost use Rattle.lattice.specs.Starts.{width_of, height_of, held};
+ghost use Rattle.lattice.specs.Starts.{held};
 
-use boards::write::write_board;
+use boards::text::board_text;
 use faults::report::Report;
 use faults::run::RunFault;
 use jobs::done::Done;
 use jobs::job::run_job;
-use lattice::start::Start;
 use std::alloc::{AllocError, Global};
 
 // The line of a fault.
@@ -23,33 +22,14 @@ fn fault_line(fault: RunFault, heap: Global) -> Result<Vec<u8>, AllocError>
     Ok(format!(in heap; "{}\n", Report::from(fault))?.into_bytes())
 }
 
-// Room for the text of any board with this start record: the first line has at most 18 bytes.
-fn board_room(start: &Start) -> usize
-    ensures { result ≡ 18 + height_of start.now * (2 * width_of start.now + 5) }
-{
-    18 + start.height() * (2 * start.width() + 5)
-}
-
-// Puts the board into the memory, and answers how many bytes it has.
-#[tactic(auto, using(boards::proofs::BoardLengths::board_short))]
-fn put_board(start: &Start, cells: &[u8], memory: &mut [u8]) -> usize
-    requires whole { Whole (held start.now cells.now) }
-    requires room { length memory.old ≡ 18 + height_of start.now * (2 * width_of start.now + 5) }
-    ensures inside { result ≤ length memory.new }
-    ensures text { take result memory.new ≡ board_text (held start.now cells.now) }
-{
-    write_board(start, cells, memory).unwrap()
-}
-
 // What came of a job whose records were all made, and the board that is held.
 fn done_text(done: &Done, cells: &[u8], heap: Global) -> Result<Vec<u8>, AllocError>
     requires { Whole (held done.now.start cells.now) }
     ensures { IfOk result (λ v. v.items ≡ ended (done_text done.now.made done.now.counts) ++ board_text (held done.now.start cells.now)) }
 {
     let mut text = format!(in heap; "{done}\n")?.into_bytes();
-    let mut board = vec![in heap; 0u8; board_room(&done.start)]?;
-    let len = put_board(&done.start, cells, &mut board);
-    text.extend_from_slice(&board[..len])?;
+    let board = board_text(&done.start, cells, heap)?.unwrap();
+    text.extend_from_slice(&board)?;
     Ok(text)
 }
 

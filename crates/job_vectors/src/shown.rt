@@ -4,18 +4,7 @@ use faults::report::Report;
 use job_texts::lab_text::lab_text;
 use jobs::done::Done;
 use jobs::job::run_job;
-use samples::cells::digest;
-
-// The memory before the job is run.
-fn memory_before(rt: &HostRuntime, room: usize) -> anyhow::Result<Vec<u8>> {
-    let mut cells = Vec::new(rt.alloc());
-    let mut next = 0u8;
-    for _ in 0..room {
-        cells.push(next)?;
-        next = next.wrapping_add(7);
-    }
-    Ok(cells)
-}
+use samples::cells::{digest, sevens};
 
 fn show_done(rt: &HostRuntime, done: &Done) -> anyhow::Result<()> {
     let (standing, undone, clock, phase) = done.counts;
@@ -35,7 +24,7 @@ fn show_fault(rt: &HostRuntime, report: &Report) -> anyhow::Result<()> {
 
 // How the job went, what the memory holds, and what `lab` prints for it.
 pub(crate) fn show(rt: &HostRuntime, case: &Case) -> anyhow::Result<()> {
-    let mut cells = memory_before(rt, case.room)?;
+    let mut cells = sevens(case.room, rt.alloc())?;
     match run_job(&case.job, &mut cells) {
         Ok(done) => show_done(rt, &done)?,
         Err(fault) => show_fault(rt, &Report::from(fault))?,

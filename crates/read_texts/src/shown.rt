@@ -1,16 +1,13 @@
 // What is printed of one text.
 use anyhow::Context;
 use boards::read::read_board;
-use boards::write::write_board;
+use boards::text::board_text;
 use faults::report::Report;
 use scripts::check::check;
 use std::io;
 use std::io::Write;
 
 const MAX_CELLS: usize = 16_384;
-
-// No board has a longer text.
-const MAX_BOARD: usize = 34_063;
 
 pub(crate) fn show_script(rt: &HostRuntime, name: &str, text: &[u8]) -> anyhow::Result<()> {
     match check(text, 1) {
@@ -36,9 +33,9 @@ pub(crate) fn show_board(rt: &HostRuntime, name: &str, text: &[u8]) -> anyhow::R
         start.phase()
     )?;
     cells.truncate(start.cell_count());
-    let mut memory = vec![in rt.alloc(); 0u8; MAX_BOARD]?;
-    let written = write_board(&start, &cells, &mut memory).context("the board is not written")?;
-    memory.truncate(written);
-    io::writer(rt).write_all(&memory)?;
+    let written = board_text(&start, &cells, rt.alloc())?.context(
+        "the cells are no whole lattice",
+    )?;
+    io::writer(rt).write_all(&written)?;
     Ok(())
 }

@@ -1,7 +1,7 @@
 // The cells of a sample, and a digest of cells.
 ghost use Rattle.std.specs.Prelude.{◌≡◌, map, fold, IfOk};
 ghost use Rattle.std.specs.List.{range_with_len};
-ghost use Rattle.samples.specs.Cells.{mixed_in, sample};
+ghost use Rattle.samples.specs.Cells.{mixed_in, sample, seven};
 
 use std::alloc::{AllocError, Allocator};
 
@@ -22,6 +22,15 @@ pub fn sown<A: Allocator>(count: usize, heap: A) -> Result<Vec<u8, A>, AllocErro
             let k = k % 65_536;
             ((k * k / 3 + 5 * k + k / 7 + 7) % 256) as u8
         })
+        .collect(heap)
+}
+
+// What a cells memory holds before a board is read into it.
+pub fn sevens<A: Allocator>(count: usize, heap: A) -> Result<Vec<u8, A>, AllocError>
+    ensures { IfOk result (λ v. v.items ≡ map seven (range_with_len 0 count)) }
+{
+    (0..count)
+        .map(|k| (7 * (k % 256) % 256) as u8)
         .collect(heap)
 }
 

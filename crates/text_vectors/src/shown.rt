@@ -1,15 +1,13 @@
 // What is printed of one text.
 use crate::case::{Case, Kind};
+use anyhow::Context;
 use boards::read::read_board;
-use boards::write::write_board;
+use boards::text::board_text;
 use faults::record::RecordFault;
 use faults::report::Report;
 use lattice::start::Start;
-use samples::cells::digest;
+use samples::cells::{digest, sevens};
 use scripts::check::check;
-
-// No board has a longer text.
-const MAX_BOARD: usize = 34_063;
 
 // The numbers of a fault, and `rest` behind them.
 fn show_fault(rt: &HostRuntime, fault: RecordFault, rest: &str) -> anyhow::Result<()> {
@@ -30,17 +28,6 @@ fn show_script(rt: &HostRuntime, case: &Case) -> anyhow::Result<()> {
     Ok(())
 }
 
-// The memory before it is read into.
-fn memory_before(rt: &HostRuntime, room: usize) -> anyhow::Result<Vec<u8>> {
-    let mut cells = Vec::new(rt.alloc());
-    let mut next = 0u8;
-    for _ in 0..room {
-        cells.push(next)?;
-        next = next.wrapping_add(7);
-    }
-    Ok(cells)
-}
-
 // How many bytes are written back, and whether they are those that were read.
 fn written_back(
     rt: &HostRuntime,
@@ -49,14 +36,13 @@ fn written_back(
     mut cells: Vec<u8>,
 ) -> anyhow::Result<(usize, bool)> {
     cells.truncate(start.cell_count());
-    let mut memory = vec![in rt.alloc(); 0u8; MAX_BOARD]?;
-    let len = write_board(start, &cells, &mut memory)?;
-    memory.truncate(len);
-    Ok((len, case.text.get(..len) == Some(memory.as_slice())))
+    let written = board_text(start, &cells, rt.alloc())?.context("the cells are no whole lattice")?;
+    let same = case.text.get(..written.len()) == Some(written.as_slice());
+    Ok((written.len(), same))
 }
 
 fn show_board(rt: &HostRuntime, case: &Case) -> anyhow::Result<()> {
-    let mut cells = memory_before(rt, case.room)?;
+    let mut cells = sevens(case.room, rt.alloc())?;
     let answer = read_board(&case.text, case.first_line, &mut cells);
     let sum = digest(&cells);
     match answer {
