@@ -8,6 +8,8 @@ mod journal_full;
 #[cfg(test)]
 mod longest_script;
 #[cfg(test)]
+mod no_frame;
+#[cfg(test)]
 mod scripts_run;
 #[cfg(test)]
 mod sessions;
