@@ -1,11 +1,11 @@
 -- The worked examples, computed, and what a move has to do with them. Assumes nothing.
-use Rattle.std.proofs.Common.{◌≡◌, ℕ, List, refl, ap, ◌∙◌}
+use Rattle.std.proofs.Common.{◌≡◌, ℕ, List, true, refl, ap, ◌∙◌}
 use Rattle.lattice.specs.Lattice.{Lattice}
 use Rattle.lattice.specs.Maps.{repeated}
 use Rattle.lattice.specs.Starts.{width_of, height_of, phase_of, held}
 use Rattle.lattice.specs.declared.start.Start.{Start}
 use Rattle.tables.proofs.Tested.{inverted_by_test}
-use Rattle.named_maps.specs.Examples.{ExamplesComeOut, square, cycle, cycle_back}
+use Rattle.named_maps.specs.Examples.{ExamplesComeOut, square, cycle, cycle_back, stands_at}
 
 pub worked_examples : ExamplesComeOut
 worked_examples = record {
@@ -33,11 +33,12 @@ worked_examples = record {
 
 -- s and cs make the square that an example begins with, and a move leads to s' and cs'
 pub landed : (f : Lattice → Lattice) (s s' : Start) (n p q : ℕ) (cs cs' ds : List ℕ) → width_of s ≡ n → height_of s ≡ n → phase_of s ≡ p
-    → held s' cs' ≡ f (held s cs) → f (square n p cs) ≡ square n q ds → cs' ≡ ds
-landed f s s' n p q cs cs' ds ew eh ep moved leads =
+    → held s' cs' ≡ f (held s cs) → stands_at q ds (held s' cs') ≡ stands_at q ds (f (square n p cs))
+landed f s s' n p q cs cs' ds ew eh ep moved =
     let begun : held s cs ≡ square n p cs = λ i. record { width = ew i; height = eh i; phase = ep i; cells = cs } in
-    ap (λ l. l.cells) (moved ∙ ap f begun ∙ leads)
+    ap (stands_at q ds) (moved ∙ ap f begun)
 
--- a map that means g does on an example what g does
-pub means : (f g : Lattice → Lattice) → f ≡ g → (k n p : ℕ) (cs : List ℕ) (m : Lattice) → repeated k g (square n p cs) ≡ m → repeated k f (square n p cs) ≡ m
-means f g e k n p cs m h = ap (λ moves. repeated k moves (square n p cs)) e ∙ h
+-- a map that means g comes out on an example where g does
+pub means : (f g : Lattice → Lattice) → f ≡ g → (k n p q : ℕ) (cs ds : List ℕ) → repeated k g (square n p cs) ≡ square n q ds → stands_at q ds (square n q ds) ≡ true
+    → stands_at q ds (repeated k f (square n p cs)) ≡ true
+means f g e k n p q cs ds h out = ap (λ moves. stands_at q ds (repeated k moves (square n p cs))) e ∙ ap (stands_at q ds) h ∙ out

@@ -11,9 +11,11 @@
 --     cycle, cycle_back      the cell table that goes one number on, round the four, and the one that goes one back
 --     seen_through f         f as it looks through the cell map of cycle
 --     ExamplesComeOut        each example comes out as it was worked by hand
---     Lands f n p cs q ds r  if there can be a start record of that square, and f leads from the square with cells cs at phase p to the one with cells ds at phase q, then r says so; cited by an inner function alone
-use Rattle.std.specs.Prelude.{◌≡◌, ℕ, ◌+◌, ◌*◌, ◌%◌, Bool, true, List, [], ◌∷◌, map, None}
+--     stands_at q ds l       whether the lattice l is at phase q and has the cells ds
+--     Lands f n p cs q ds r  if there can be a start record of that square, r says whether f leads from the square with cells cs at phase p to cells ds at phase q; if there cannot, r says no; cited by an inner function alone
+use Rattle.std.specs.Prelude.{◌≡◌, ℕ, ◌+◌, ◌*◌, ◌%◌, Bool, false, ◌&&◌, List, [], ◌∷◌, map, None, ◌==◌, ◌≢◌}
 use Rattle.std.specs.List.{range_with_len}
+use Rattle.std.specs.Str.{bytes_eq}
 use Rattle.lattice.specs.Lattice.{Lattice}
 use Rattle.lattice.specs.Maps.{repeated}
 use Rattle.lattice.specs.Refusals.{start_refusal}
@@ -89,5 +91,8 @@ pub record ExamplesComeOut : Type 0 where
   pub cycle_is_undone_by_its_inverse : InvertedBy 4 cycle cycle_back
   pub a_conjugation_goes_in_first : (p : ℕ) → seen_through life2_forward (square 4 p (first_and_others 1 0)) ≡ square 4 p (first_and_others 0 1)
 
+abbrev pub stands_at : ℕ → List ℕ → Lattice → Bool
+stands_at q ds l = l.phase == q && bytes_eq l.cells ds
+
 abbrev pub Lands : (Lattice → Lattice) → ℕ → ℕ → List ℕ → ℕ → List ℕ → Bool → Type 0
-Lands f n p cs q ds r = start_refusal n n p ≡ None → f (square n p cs) ≡ square n q ds → r ≡ true
+Lands f n p cs q ds r = (start_refusal n n p ≡ None → r ≡ stands_at q ds (f (square n p cs))) × ((start_refusal n n p ≢ None) → r ≡ false)

@@ -7,6 +7,6 @@ use Rattle.named_maps.proofs.examples.critters_lands.Goals as goal
 
 pub returns : goal.returns
 returns c =
-    let forward = c.lands-forward.ensures refl (means _ _ c.critters-map.ensures.forward 1 2 0 one_present _ worked_examples.critters_steps_forward) in
-    let back = c.lands-back.ensures refl (means _ _ (ap (λ m. block_backward (inverse_of (table_of m))) c.new-reverse.ensures ∙ c.critters-map.ensures.backward) 1 2 0 one_present _ worked_examples.critters_steps_back) in
+    let forward = c.lands-forward.ensures.0 refl ∙ means _ _ c.critters-map.ensures.forward 1 2 0 _ one_present _ worked_examples.critters_steps_forward refl in
+    let back = c.lands-back.ensures.0 refl ∙ means _ _ (ap (λ m. block_backward (inverse_of (table_of m))) c.new-reverse.ensures ∙ c.critters-map.ensures.backward) 1 2 0 _ one_present _ worked_examples.critters_steps_back refl in
     λ i. forward i && back i
