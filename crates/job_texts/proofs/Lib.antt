@@ -1,1 +1,2 @@
+pub mod LongJobs
 pub mod Printed

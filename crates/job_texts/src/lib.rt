@@ -1,4 +1,5 @@
-// What is printed of a job.
+// How a job is read, and what is printed of it.
 #![tactic(auto)]
 
 pub mod lab_text;
+pub mod read_job;

@@ -1,0 +1,39 @@
+-- Of a job that is too long the bytes beyond the first that is too many do not count. Assumes nothing.
+use Rattle.std.proofs.Common.{◌≡◌, ℕ, ◌+◌, ◌≤◌, ◌<◌, Bool, true, false, List, [], ◌++◌, length, take, leb, Some, None, Option, Err, IfSome, arith, refl, sym, ◌∙◌, ap, ap₂, subst}
+use Rattle.std.proofs.lemmas.Bool.{leb-true, leb-false, lt-leb}
+use Rattle.std.proofs.lemmas.List.{take_all, length-take-le}
+use Rattle.std.specs.Io.KnownBytes.{Appends}
+use Rattle.std.specs.Io.Take.{take_limit, take_inner, take_remaining}
+use Rattle.std.specs.Option.{option_map}
+use Rattle.std.specs.declared.io.traits.Take.{Take}
+use Rattle.faults.specs.declared.record.RecordFault.TheVariants.{TooLong}
+use Rattle.jobs.specs.Jobs.{job}
+use Rattle.lattice.specs.Limits.{max_area}
+use Rattle.text.specs.Wholes.{max_text}
+use Rattle.job_texts.specs.Texts.{printed_by, lab_text}
+
+too_long : (k : ℕ) (bs : List ℕ) → max_text < length bs → job k bs ≡ Err TooLong
+too_long k bs long = rw (lt-leb (length bs) max_text long) refl
+
+cut_at : (k : ℕ) (bs : List ℕ) (short : Bool) → leb (length bs) max_text ≡ short → job k (take (max_text + 1) bs) ≡ job k bs
+cut_at k bs true is = let room : length bs ≤ max_text + 1 = omega (arith, leb-true (length bs) max_text is) in ap (job k) (take_all (max_text + 1) bs room)
+cut_at k bs false is =
+    let long : max_text < length bs = leb-false (length bs) max_text is in
+    let len : length (take (max_text + 1) bs) ≡ max_text + 1 = length-take-le (max_text + 1) bs (omega (arith, long)) in
+    too_long k (take (max_text + 1) bs) (omega (arith, len)) ∙ sym (too_long k bs long)
+
+pub cut : (bs : List ℕ) → lab_text (take (max_text + 1) bs) ≡ lab_text bs
+cut bs = ap printed_by (cut_at max_area bs (leb (length bs) max_text) refl)
+
+-- what is read of a job, and what is written for it
+pub carried : (input : Option (List ℕ)) (v text : List ℕ) (old new : Option (List ℕ)) → IfSome input (λ bs. v ≡ take (max_text + 1) bs) → text ≡ lab_text v → Appends old new text → IfSome input (λ bs. Appends old new (lab_text bs))
+carried None v text old new read made written = tt
+carried (Some bs) v text old new read made written = subst (Appends old new) (made ∙ ap lab_text read ∙ cut bs) written
+
+-- what is read of the bytes that are left, up to a limit
+limited : (left : Option (List ℕ)) (s v : List ℕ) (m n : ℕ) → s ≡ [] → m ≡ n → IfSome (option_map (take m) left) (λ xs. v ≡ s ++ xs) → IfSome left (λ bs. v ≡ take n bs)
+limited None s v m n empty limit read = tt
+limited (Some bs) s v m n empty limit read = read ∙ ap₂ (λ l k. l ++ take k bs) empty limit
+
+pub read_up_to : {R : Type 0} (left : R → Option (List ℕ)) (input : R) (n : ℕ) (t : Take R) (s v : List ℕ) → s ≡ [] → take_limit t ≡ n → take_inner t ≡ input → IfSome (take_remaining left t) (λ xs. v ≡ s ++ xs) → IfSome (left input) (λ bs. v ≡ take n bs)
+read_up_to left input n t s v empty limit inner read = subst (λ i. IfSome (left i) (λ bs. v ≡ take n bs)) inner (limited (left (take_inner t)) s v (take_limit t) n empty limit read)
