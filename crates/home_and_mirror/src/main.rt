@@ -4,12 +4,9 @@
 mod shown;
 mod trial;
 
-use std::io::Read;
+use job_texts::read_job::read_job;
 use std::{env, fs};
 use trial::try_job;
-
-// One byte more than a job may have, so that it shows if there are more.
-const MAX_READ: u64 = 65_537;
 
 // The jobs in the files that the arguments name; the one on standard input, where there are no arguments.
 fn main(rt: HostRuntime) -> anyhow::Result<()> {
@@ -21,9 +18,7 @@ fn main(rt: HostRuntime) -> anyhow::Result<()> {
         named = true;
     }
     if !named {
-        let mut job = Vec::new(rt.alloc());
-        rt.reader().take(MAX_READ).read_to_end(&mut job)?;
-        try_job(&rt, &job)?;
+        try_job(&rt, &read_job(rt.reader(), rt.alloc())?)?;
     }
     Ok(())
 }

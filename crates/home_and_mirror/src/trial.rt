@@ -1,7 +1,13 @@
 // A job, its way home and its mirror, which one call makes for its whole life.
+ghost use Rattle.std.specs.Prelude.{◌≡◌, List, IfOk, drop, map};
+ghost use Rattle.home_and_mirror.specs.Events.{own_event};
+ghost use Rattle.scripts.specs.Laws.{Reads};
+ghost use Rattle.scripts.specs.declared.record.Record.{Record};
+ghost use Rattle.scripts.specs.declared.state.State.TheVariants.{Rest};
+
 use crate::shown::{show_home, show_mirror};
-use anyhow::Context;
-use job_texts::lab_text::lab_text;
+use anyhow::bail;
+use job_texts::lab_text::{lab_text, max_cells};
 use jobs::job::run_job;
 use jobs::opening::{Opening, open_job};
 use lives::event::{Event, Lent};
@@ -12,20 +18,20 @@ use std::alloc::Global;
 use std::io;
 use std::io::Write;
 
-const MAX_CELLS: usize = 16_384;
-
 // Always enough for a reverse script.
 const MAX_SCRIPT: usize = 7_168;
 
-// The records of the job, each handed the cells of its bench. A script has fewer records than bytes.
-fn events_of(job: &[u8], opening: &Opening, heap: Global) -> anyhow::Result<Vec<Event>> {
-    let script = job.get(opening.script_at..).context("there is no script")?;
+// The records of the job, each handed the cells of its bench.
+fn events_of(job: &[u8], opening: &Opening, heap: Global) -> anyhow::Result<Vec<Event>>
+    ensures { IfOk result (λ v. (rs : List Record) → Reads Rest rs Rest (drop opening.now.script_at job.now) → v.items ≡ map own_event rs) }
+{
+    if job.len() < opening.script_at {
+        bail!("there is no script");
+    }
+    let script = &job[opening.script_at..];
     let mut records = Records::new(script, opening.script_line);
     let mut events = Vec::new(heap);
-    for _ in 0..script.len() {
-        let Some(record) = records.next_record()? else {
-            break;
-        };
+    while let Some(record) = records.next_record()? {
         events.push(Event {
             call: record,
             lent: Lent::Own,
@@ -37,7 +43,7 @@ fn events_of(job: &[u8], opening: &Opening, heap: Global) -> anyhow::Result<Vec<
 // What `lab` prints, and if the job is made, the way home and the mirror.
 pub(crate) fn try_job(rt: &HostRuntime, job: &[u8]) -> anyhow::Result<()> {
     io::writer(rt).write_all(&lab_text(job, rt.alloc())?)?;
-    let mut cells = vec![in rt.alloc(); 0u8; MAX_CELLS]?;
+    let mut cells = vec![in rt.alloc(); 0u8; max_cells()]?;
     if run_job(job, &mut cells).is_err() {
         return Ok(());
     }

@@ -45,7 +45,7 @@ fn text_in(job: &[u8], cells: &mut [u8], heap: Global) -> Result<Vec<u8>, AllocE
 }
 
 // Room for the cells of every lattice.
-fn max_cells() -> usize
+pub fn max_cells() -> usize
     ensures { result ≡ max_area }
 {
     16_384
