@@ -1,6 +1,6 @@
 -- The lines of a board: what is written is read, and what is read is written so. Assumes nothing.
-use Rattle.std.proofs.Common.{◌≡◌, ℕ, ◌*◌, ◌≤◌, List, [], ◌∷◌, length, true, false, Bool, Some, None, Option, Ok, Result, arith, refl, sym, ap, subst, flat_map, eqb, codes, ◌&&◌, slice_index_or}
-use Rattle.std.proofs.lemmas.Bool.{eqb-true, eq-eqb}
+use Rattle.std.proofs.Common.{◌≡◌, ℕ, ◌*◌, ◌≤◌, List, [], ◌∷◌, length, true, Some, None, Option, Ok, Result, arith, refl, sym, ap, subst, flat_map, eqb, codes, ◌&&◌, slice_index_or}
+use Rattle.std.proofs.lemmas.Bool.{eqb-true, eq-eqb, and_parts}
 use Rattle.std.proofs.lemmas.Slice.Eq.{bytes_eq-Decides}
 use Rattle.std.specs.Fmt.{decimal}
 use Rattle.std.specs.List.{list_all}
@@ -68,16 +68,12 @@ pub record RowRead (w : ℕ) (fs : List (List ℕ)) (cs : List ℕ) : Type 0 whe
   pub count : length cs ≡ w
   pub bytes : AreBytes cs
 
-both_true : (a b : Bool) → (a && b) ≡ true → (a ≡ true) × (b ≡ true)
-both_true true b e = (refl, e)
-both_true false b e = absurd cc
-
 one : (w n : ℕ) (args : List (List ℕ)) (cs : List ℕ) → length args ≡ 1 → digits_at w n (slice_index_or args 0 []) ≡ Ok cs → RowRead w (codes "row" ∷ args) cs
 one w n [] cs len is = absurd (omega arith)
 one w n (a ∷ b ∷ args) cs len is = absurd (omega arith)
 one w n (a ∷ []) cs len is =
     let p = passed (eqb (length a) (2 * w) && list_all is_hex a) (Ok (cells_of a)) _ cs is in
-    let tests = both_true (eqb (length a) (2 * w)) (list_all is_hex a) p.0 in
+    let tests = and_parts (eqb (length a) (2 * w)) (list_all is_hex a) p.0 in
     let r : ReadDigits a w = digits_read w a (eqb-true _ _ tests.0) tests.1 in
     let same : cells_of a ≡ cs = cc (p.1) in
     subst (RowRead w (codes "row" ∷ a ∷ [])) same (record { written = ap (λ x. codes "row" ∷ x ∷ []) r.written; count = r.count; bytes = r.bytes })

@@ -18,6 +18,11 @@ pub bytes_one_by_one : (cs : List ℕ) → Bytes cs → AreBytes cs
 bytes_one_by_one [] bytes = tt
 bytes_one_by_one (c ∷ cs) bytes = (bytes 0, bytes_one_by_one cs (λ k. bytes (suc k)))
 
+pub bytes_at_once : (cs : List ℕ) → AreBytes cs → Bytes cs
+bytes_at_once [] bytes k = omega arith
+bytes_at_once (c ∷ cs) bytes zero = bytes.0
+bytes_at_once (c ∷ cs) bytes (suc k) = bytes_at_once cs bytes.1 k
+
 -- a digit and its value
 glyph_is_hex : (d : ℕ) → d < 16 → is_hex (digit_glyph false d) ≡ true
 glyph_is_hex d small = grind (arith, nat_tests)

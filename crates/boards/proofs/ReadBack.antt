@@ -1,19 +1,17 @@
 -- Of a memory with nothing but a board, as `write_board` promises: it is read as the lattice that it was written of. Assumes nothing.
 use Rattle.std.proofs.Common.{◌≡◌, ℕ, suc, zero, ◌+◌, ◌*◌, ◌≤◌, List, [], ◌∷◌, ◌++◌, length, take, drop, map, flat_map, true, Ok, Err, Result, IfOk, arith, sym, ◌∙◌, ap}
 use Rattle.std.proofs.Math.Nat.{mul_comm, suc-mul}
-use Rattle.std.proofs.lemmas.List.{append-nil, length-append, take_at}
-use Rattle.std.proofs.lemmas.Fmt.{length-decimal-le}
-use Rattle.std.specs.Fmt.{decimal}
+use Rattle.std.proofs.lemmas.List.{append-nil, take_at}
 use Rattle.lattice.proofs.Starts.{held_within}
 use Rattle.lattice.specs.Lattice.{Lattice, Bytes, Whole}
-use Rattle.lattice.specs.Starts.{width_of, height_of, phase_of, held}
+use Rattle.lattice.specs.Starts.{width_of, height_of, held}
 use Rattle.lattice.specs.declared.start.Start.{Start}
 use Rattle.text.proofs.EndedLines.{finished_joined}
 use Rattle.text.specs.Lines.{ended}
 use Rattle.text.specs.Wholes.{max_text, finished}
 use Rattle.boards.proofs.BoardLaws.{start_content, row_content, rows_joined}
+use Rattle.boards.proofs.BoardLengths.{board_short}
 use Rattle.boards.proofs.RoundTrips.{written_board}
-use Rattle.boards.proofs.WholeBoards.{board_length}
 use Rattle.boards.specs.Boards.{rows, start_line, board_text}
 use Rattle.boards.specs.Reading.{board}
 use Rattle.boards.specs.Answers.{BoardWritten}
@@ -25,13 +23,6 @@ board_finished l =
     let joined : board_text l ≡ flat_map ended (start_content l.width l.height l.phase ∷ map row_content (rows l.width l.height l.cells)) = ap (λ x. start_line l.width l.height l.phase ++ x) (rows_joined (rows l.width l.height l.cells)) in
     ap finished joined ∙ finished_joined (start_content l.width l.height l.phase ∷ map row_content (rows l.width l.height l.cells))
 
-start_short : (s : Start) → length (start_line (width_of s) (height_of s) (phase_of s)) ≤ 16
-start_short s =
-    let wide : length (decimal (width_of s)) ≤ 3 = length-decimal-le 3 (width_of s) (omega arith) (omega (arith, s.wide.1)) (omega (arith, s.wide.1)) in
-    let high : length (decimal (height_of s)) ≤ 3 = length-decimal-le 3 (height_of s) (omega arith) (omega (arith, s.high.1)) (omega (arith, s.high.1)) in
-    let phased : length (decimal (phase_of s)) ≤ 1 = length-decimal-le 1 (phase_of s) (omega arith) (omega (arith, s.phased)) (omega (arith, s.phased)) in
-    omega (arith, wide, high, phased, length-append (decimal (width_of s) ++ (9 ∷ (decimal (height_of s) ++ (9 ∷ decimal (phase_of s))))) (10 ∷ []), length-append (decimal (width_of s)) (9 ∷ (decimal (height_of s) ++ (9 ∷ decimal (phase_of s)))), length-append (decimal (height_of s)) (9 ∷ decimal (phase_of s)))
-
 rows_counted : (w h : ℕ) → h * (2 * w + 5) ≡ 2 * (h * w) + 5 * h
 rows_counted w zero = omega arith
 rows_counted w (suc h) = omega (arith, suc-mul h (2 * w + 5), suc-mul h w, rows_counted w h)
@@ -39,8 +30,8 @@ rows_counted w (suc h) = omega (arith, suc-mul h (2 * w + 5), suc-mul h w, rows_
 rows_short : (w h : ℕ) → h ≤ 256 → w * h ≤ 16384 → h * (2 * w + 5) ≤ 34048
 rows_short w h low area = omega (arith, rows_counted w h, mul_comm w h, low, area)
 
-pub board_short : (s : Start) (cs : List ℕ) → Whole (held s cs) → length (board_text (held s cs)) ≤ max_text
-board_short s cs whole = omega (arith, board_length s cs whole, start_short s, rows_short (width_of s) (height_of s) s.high.1 s.area)
+board_is_text : (s : Start) (cs : List ℕ) → Whole (held s cs) → length (board_text (held s cs)) ≤ max_text
+board_is_text s cs whole = omega (arith, board_short s cs whole, rows_short (width_of s) (height_of s) s.high.1 s.area)
 
 pub board_reads_back : (n : ℕ) (s : Start) (cs : List ℕ) → Whole (held s cs) → Bytes cs → board n (board_text (held s cs)) ≡ Ok (held s cs)
 board_reads_back n s cs whole bytes = written_board n (board_text (held s cs)) (held s cs) (record {
@@ -48,7 +39,7 @@ board_reads_back n s cs whole bytes = written_board n (board_text (held s cs)) (
   whole = whole;
   more = [];
   text = sym (append-nil (board_text (held s cs)));
-  short = board_short s cs whole;
+  short = board_is_text s cs whole;
   finished = board_finished (held s cs);
 })
 

@@ -6,7 +6,7 @@ use Rattle.std.proofs.lemmas.Grind.{flat_map-append}
 use Rattle.std.proofs.lemmas.List.{drop_at, length-append}
 use Rattle.boards.proofs.BoardLaws.{start_content, row_content, rows_joined}
 use Rattle.boards.proofs.Found.{board_count}
-use Rattle.boards.proofs.RoundTrips.{written_board}
+use Rattle.boards.proofs.RoundTrips.{written_board, board_begins, board_within}
 use Rattle.boards.specs.Answers.{BeginsWith}
 use Rattle.boards.specs.Boards.{rows, start_line, board_text}
 use Rattle.boards.specs.Reading.{on_first, board}
@@ -23,8 +23,6 @@ use Rattle.text.proofs.EndedLines.{finished_joined}
 use Rattle.text.proofs.WholeTexts.{whole_accepted, whole_passes}
 use Rattle.text.specs.Lines.{below_first, lines, ended}
 use Rattle.text.specs.Wholes.{max_text, finished, whole}
-use Rattle.jobs.proofs.BoardLimits.{board_within}
-use Rattle.jobs.proofs.BoardsFound.{board_begins}
 use Rattle.jobs.proofs.JobParts.{JobParts, job_parts}
 use Rattle.jobs.proofs.MapLineLaws.{map_line_was, map_content, map_line_taken, below_map_line}
 use Rattle.jobs.specs.Answers.{JobOpened, Filled}

@@ -1,4 +1,3 @@
-pub mod BoardLimits
 pub mod BoardsFound
 pub mod Helds
 pub mod JobLaws

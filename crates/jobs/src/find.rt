@@ -25,7 +25,7 @@ pub(crate) fn below(text: &[u8], at: usize) -> &[u8]
 }
 
 // Looks for the board, and asks whether its cells have room.
-#[tactic(auto, using(crate::proofs::BoardsFound::board_short, crate::proofs::BoardsFound::board_fits, crate::proofs::BoardsFound::board_inside))]
+#[tactic(auto, using(crate::proofs::BoardsFound::no_room, crate::proofs::BoardsFound::board_fits, boards::proofs::RoundTrips::board_inside))]
 fn find_board(text: &[u8], room: usize) -> Result<(Start, usize), RecordFault>
     ensures found { BoardFound (board_in room text.now) result }
     ensures inside { IfOk result (λ x. x.1 ≤ length text.now) }
