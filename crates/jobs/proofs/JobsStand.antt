@@ -9,9 +9,9 @@ use Rattle.lattice.specs.Starts.{StartOf}
 use Rattle.ledger.proofs.Shapes.{standing_shape}
 use Rattle.named_maps.specs.Choice.{forward_of, backward_of}
 use Rattle.named_maps.specs.Laws.{laws_of}
+use Rattle.runs.proofs.StandingRuns.{Stands, stands_opened, stands_after, stands_closed, rests_closed}
 use Rattle.runs.specs.Runs.{first_refused, made_of}
 use Rattle.scripts.specs.declared.state.State.TheVariants.{Rest}
-use Rattle.jobs.proofs.Helds.{Stands, stands_opened, stands_after, stands_closed, rests_closed}
 use Rattle.jobs.proofs.JobLaws.{job_was, job_written}
 use Rattle.jobs.specs.Answers.{Filled, JobTold, JobRun}
 use Rattle.jobs.specs.Jobs.{Job, job}

@@ -1,5 +1,4 @@
 pub mod BoardsFound
-pub mod Helds
 pub mod JobLaws
 pub mod JobParts
 pub mod JobsFound

@@ -1,5 +1,5 @@
 -- The records that make given actions are accepted by a bench that has room for them, and do make them. Assumes nothing.
-use Rattle.std.proofs.Common.{◌≡◌, ℕ, ◌+◌, ◌*◌, ◌<◌, ◌≤◌, Bool, true, false, cond, List, [], ◌∷◌, ◌++◌, length, map, flat_map, Some, None, Option, refl, sym, ap, ap₂, ◌∙◌, subst, arith}
+use Rattle.std.proofs.Common.{◌≡◌, ℕ, ◌+◌, ◌*◌, ◌≤◌, Bool, true, false, cond, List, [], ◌∷◌, ◌++◌, length, map, flat_map, Some, None, Option, refl, sym, ap, ap₂, ◌∙◌, subst, arith}
 use Rattle.std.proofs.lemmas.List.{append_assoc, append-nil, length-append}
 use Rattle.std.proofs.lemmas.List.Elements.{All-head, All-tail, All-push}
 use Rattle.std.proofs.lemmas.List.Sums.{sum_by-cons, sum_by-append}
@@ -20,7 +20,7 @@ use Rattle.ledger.proofs.Shapes.{standing_shape}
 use Rattle.ledger.proofs.Sound.{Sound, FlipOn, ActionOn, booked_sound}
 use Rattle.ledger.specs.Effects.{effect, standing_for}
 use Rattle.ledger.specs.Homes.{flip_record, making}
-use Rattle.ledger.specs.Ledgers.{Ledger, size, entries, edit_of, booked}
+use Rattle.ledger.specs.Ledgers.{Ledger, size, entries, booked}
 use Rattle.ledger.specs.Refusals.{own_refusal, takes_cells, refusal, if_accepted}
 use Rattle.runs.proofs.AllAccepted.{Goes, goes_nil, goes_cons}
 use Rattle.scripts.specs.Records.{kind_of}

@@ -1,6 +1,8 @@
 -- What a bench holds after a run is what the actions that stand make of what it was opened on, and it rests. Assumes nothing.
 --     Stands f g l s     the ledger of s is sound, and what is held is what it says, if l was the lattice of the opening
 use Rattle.std.proofs.Common.{◌≡◌, Bool, true, false, cond, List, [], ◌∷◌, length, Some, None, Option, refl, sym, ap, ap₂, ◌∙◌, subst}
+use Rattle.std.proofs.lemmas.Bool.{cond_both}
+use Rattle.any_bench.proofs.PassedOver.{at_test}
 use Rattle.any_bench.specs.Calls.{booked_if, made_if}
 use Rattle.any_bench.specs.Scenes.{Scene, after_call, after_calls}
 use Rattle.faults.specs.declared.run.BenchRefusal.{BenchRefusal}
@@ -24,15 +26,6 @@ pub record Stands (f g : Lattice → Lattice) (l : Lattice) (s : Scene) : Type 0
   pub sound : Sound l.width l.height s.ledger
   pub held : s.lattice ≡ standing_for f g s.ledger l
 
-by_test : {A : Type 0} (P : A → Type 0) (b : Bool) (x y : A) → (b ≡ true → P x) → P y → P (cond b x y)
-by_test P true x y passes fails = passes refl
-by_test P false x y passes fails = fails
-
--- both cases of a test at once
-at_test : (b : Bool) (d : Option BenchRefusal) (x y : Ledger) (p q : Lattice) (F : Ledger → Lattice) → (b ≡ true → if_accepted d p q ≡ F (if_accepted d x y)) → q ≡ F y → cond b (if_accepted d p q) q ≡ F (cond b (if_accepted d x y) y)
-at_test true d x y p q F passes fails = passes refl
-at_test false d x y p q F passes fails = fails
-
 same_state : (b : Bool) (d : Option BenchRefusal) (x y : Ledger) → x.state ≡ y.state → (cond b (if_accepted d x y) y).state ≡ y.state
 same_state false d x y same = refl
 same_state true None x y same = same
@@ -50,7 +43,7 @@ module _ (f g : Lattice → Lattice) (laws : Reversible f g) (l : Lattice) (insi
     sound_then : Sound l.width l.height (booked_if (standing_for f g led l) c led)
     sound_then =
         let n = length (standing_for f g led l).cells in
-        subst (Sound l.width l.height) (sym booked_is) (by_test (Sound l.width l.height) (permits led.state (kind_of c)) (after l.width l.height n c led) led (λ may. after_sound l.width l.height n c led may s) s)
+        subst (Sound l.width l.height) (sym booked_is) (cond_both (permits led.state (kind_of c)) (after l.width l.height n c led) led (Sound l.width l.height) (λ may. after_sound l.width l.height n c led may s) (λ _. s))
 
     held_then : made_if f g c led (standing_for f g led l) ≡ standing_for f g (booked_if (standing_for f g led l) c led) l
     held_then =
