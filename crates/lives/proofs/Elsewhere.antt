@@ -9,7 +9,7 @@ use Rattle.lattice.specs.declared.start.Start.{Start}
 use Rattle.ledger.specs.Effects.{effect}
 use Rattle.ledger.specs.Ledgers.{Ledger, booked}
 use Rattle.ledger.specs.Refusals.{takes_cells, refusal, if_accepted}
-use Rattle.lives.specs.Events.{lent_count, handed, is_call, event_made}
+use Rattle.lives.specs.Events.{lent_count, lent_cells, is_call, event_made}
 use Rattle.lives.specs.declared.event.Event.{Event}
 use Rattle.lives.specs.declared.event.Lent.TheVariants.{Part}
 use Rattle.scripts.specs.Records.{kind_of}
@@ -39,10 +39,10 @@ pub same_held : (s t : Start) (cs ds : List ℕ) → held s cs ≡ held t ds →
 same_held s t cs ds is es = ap (λ l. with_cells l es) is
 
 -- nor does an event that hands such a memory
-pub event_elsewhere : (f g : Lattice → Lattice) (n : ℕ) (e : Event) (led : Ledger) (l : Lattice) → takes_cells e.call ≡ true → (handed l.width l.height n e ≡ l.width * l.height → ⊥) → event_made f g n e led l ≡ l
+pub event_elsewhere : (f g : Lattice → Lattice) (n : ℕ) (e : Event) (led : Ledger) (l : Lattice) → takes_cells e.call ≡ true → (lent_cells l.width l.height n e ≡ l.width * l.height → ⊥) → event_made f g n e led l ≡ l
 event_elsewhere f g n e led l takes other =
-    ap (λ d. cond (is_call l.width l.height n e led) (if_accepted d (effect f g e.call led l) l) l) (refused_cells l.width l.height (handed l.width l.height n e) e.call led takes other)
+    ap (λ d. cond (is_call l.width l.height n e led) (if_accepted d (effect f g e.call led l) l) l) (refused_cells l.width l.height (lent_cells l.width l.height n e) e.call led takes other)
     ∙ same (is_call l.width l.height n e led) l
 
-pub part_handed : (w h n k m : ℕ) (e : Event) → e.lent ≡ Part k → m ≡ min k n → (m ≡ w * h → ⊥) → handed w h n e ≡ w * h → ⊥
-part_handed w h n k m e is end other whole = other (end ∙ sym (ap (lent_count (w * h) n) is) ∙ whole)
+pub part_lent : (w h n k m : ℕ) (e : Event) → e.lent ≡ Part k → m ≡ min k n → (m ≡ w * h → ⊥) → lent_cells w h n e ≡ w * h → ⊥
+part_lent w h n k m e is end other whole = other (end ∙ sym (ap (lent_count (w * h) n) is) ∙ whole)

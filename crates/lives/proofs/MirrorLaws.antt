@@ -14,7 +14,7 @@ use Rattle.ledger.specs.Ledgers.{Ledger, at_opening, clock_of, counts}
 use Rattle.ledger.specs.Mirrors.{mirror_call}
 use Rattle.ledger.specs.Refusals.{takes_cells, answer, after}
 use Rattle.lives.proofs.LifeLaws.{event_held}
-use Rattle.lives.specs.Events.{is_part, handed, is_call, event_told, event_booked, event_made}
+use Rattle.lives.specs.Events.{is_part, lent_cells, is_call, event_told, event_booked, event_made}
 use Rattle.lives.specs.Lives.{life_ledger, life_lattice, told_after, of_mirror}
 use Rattle.lives.specs.Mirrors.{mirror_event}
 use Rattle.lives.specs.declared.event.Event.{Event}
@@ -22,12 +22,12 @@ use Rattle.scripts.specs.States.{permits}
 
 module _ (w h n : ℕ) (e : Event) (led : Ledger) where
   same_call : is_call w h n (mirror_event e) (mirrored led) ≡ is_call w h n e led
-  same_call = ap₂ (λ k t. permits led.state k && not (t && (is_part e.lent && handed w h n e == w * h))) (same_kind e.call) (takes_mirrored e.call)
+  same_call = ap₂ (λ k t. permits led.state k && not (t && (is_part e.lent && lent_cells w h n e == w * h))) (same_kind e.call) (takes_mirrored e.call)
 
   pub mirror_told : event_told w h n (mirror_event e) (mirrored led) ≡ event_told w h n e led
   mirror_told =
-      ap (λ b. cond b (cond (takes_cells (mirror_call e.call)) (said (answer w h (handed w h n e) (mirror_call e.call) (mirrored led))) Given) PassedOver) same_call
-      ∙ ap₂ (λ t a. cond (is_call w h n e led) (cond t (said a) Given) PassedOver) (takes_mirrored e.call) (answer_mirrored w h (handed w h n e) e.call led)
+      ap (λ b. cond b (cond (takes_cells (mirror_call e.call)) (said (answer w h (lent_cells w h n e) (mirror_call e.call) (mirrored led))) Given) PassedOver) same_call
+      ∙ ap₂ (λ t a. cond (is_call w h n e led) (cond t (said a) Given) PassedOver) (takes_mirrored e.call) (answer_mirrored w h (lent_cells w h n e) e.call led)
 
   either : (b : Bool) (x : Ledger) → cond b (mirrored x) (mirrored led) ≡ mirrored (cond b x led)
   either true x = refl
@@ -35,7 +35,7 @@ module _ (w h n : ℕ) (e : Event) (led : Ledger) where
 
   pub mirror_booked : event_booked w h n (mirror_event e) (mirrored led) ≡ mirrored (event_booked w h n e led)
   mirror_booked =
-      ap₂ (λ b x. cond b x (mirrored led)) same_call (after_mirrored w h (handed w h n e) e.call led) ∙ either (is_call w h n e led) (after w h (handed w h n e) e.call led)
+      ap₂ (λ b x. cond b x (mirrored led)) same_call (after_mirrored w h (lent_cells w h n e) e.call led) ∙ either (is_call w h n e led) (after w h (lent_cells w h n e) e.call led)
 
 pub mirror_counts : (led : Ledger) (p : ℕ) → counts (mirrored led) p ≡ (length led.standing, length led.undone, neg_ℤ (clock_of led.standing), p)
 mirror_counts led p =

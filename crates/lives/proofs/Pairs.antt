@@ -1,6 +1,5 @@
 -- One more event of a bench and of its mirror. Assumes nothing.
-use Rattle.std.proofs.Common.{◌≡◌, ℕ, List, [], ◌∷◌, ◌++◌, ℤ, sym, ap, ap₂, ◌∙◌, subst}
-use Rattle.any_bench.specs.declared.answer.Answer.{Answer}
+use Rattle.std.proofs.Common.{◌≡◌, ℕ, List, [], ◌∷◌, ◌++◌, sym, ap, ap₂, ◌∙◌, subst}
 use Rattle.lattice.proofs.Wholes.{same_shape_whole}
 use Rattle.lattice.specs.Lattice.{Lattice, Whole, Within, SameShape}
 use Rattle.lattice.specs.Maps.{Reversible}
@@ -14,7 +13,6 @@ use Rattle.lives.specs.Events.{event_told, event_booked, event_made}
 use Rattle.lives.specs.Lives.{life_ledger, life_lattice}
 use Rattle.lives.specs.Mirrors.{mirror_event}
 use Rattle.lives.specs.declared.event.Event.{Event}
-use Rattle.lives.specs.declared.event.Told.{Told}
 
 module _ (f g : Lattice → Lattice) (laws : Reversible f g) (l : Lattice) (inside : Within l) (n : ℕ) (es : List Event) where
   life_shape : SameShape l (life_lattice f g l n es)
@@ -59,8 +57,3 @@ module _ (f g : Lattice → Lattice) (laws : Reversible f g) (l : Lattice) (insi
           ap₂ (event_made g f n (mirror_event e)) led_is held_is
           ∙ mirror_held f g laws l inside n e (life_ledger l n es) (life_sound l n es)
           ∙ ap (λ y. standing_for f g y l) (sym (life_more l n es e))
-
--- what is told, put together
-
-pub told_is : (a b : Answer) (c d : ℕ × ℕ × ℤ × ℕ) → a ≡ b → c ≡ d → ◌≡◌ {A = Told} (record { answer = a; counts = c }) (record { answer = b; counts = d })
-told_is a b c d p q = ap₂ (λ x y. record { answer = x; counts = y }) p q

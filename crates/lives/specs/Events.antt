@@ -1,7 +1,7 @@
 -- What happens in a life, by the ledger. The sides of the lattice are w and h, and the second memory has n bytes.
 --     lent_count k n t         how many bytes the lending t hands over, of k own ones or of n others
 --     is_part t                t lends a part of the second memory
---     handed w h n e           how many cells the event e hands to its call
+--     lent_cells w h n e       how many cells the event e hands to its call
 --     is_call w h n e led      e is a call of the life: the state permits it, and it is not handed a part of the second memory that has as many cells as the lattice
 --     event_told w h n e led   what is answered to it; what is no call is passed over, and open and close give only the bench
 --     event_booked w h n e led     the ledger after it
@@ -28,18 +28,18 @@ abbrev pub is_part : Lent → Bool
 is_part Own = false
 is_part (Part k) = true
 
-abbrev pub handed : ℕ → ℕ → ℕ → Event → ℕ
-handed w h n e = lent_count (w * h) n e.lent
+abbrev pub lent_cells : ℕ → ℕ → ℕ → Event → ℕ
+lent_cells w h n e = lent_count (w * h) n e.lent
 
 abbrev pub is_call : ℕ → ℕ → ℕ → Event → Ledger → Bool
-is_call w h n e led = permits led.state (kind_of e.call) && not (takes_cells e.call && (is_part e.lent && handed w h n e == w * h))
+is_call w h n e led = permits led.state (kind_of e.call) && not (takes_cells e.call && (is_part e.lent && lent_cells w h n e == w * h))
 
 abbrev pub event_told : ℕ → ℕ → ℕ → Event → Ledger → Answer
-event_told w h n e led = if is_call w h n e led then (if takes_cells e.call then said (answer w h (handed w h n e) e.call led) else Given) else PassedOver
+event_told w h n e led = if is_call w h n e led then (if takes_cells e.call then said (answer w h (lent_cells w h n e) e.call led) else Given) else PassedOver
 
 abbrev pub event_booked : ℕ → ℕ → ℕ → Event → Ledger → Ledger
-event_booked w h n e led = if is_call w h n e led then after w h (handed w h n e) e.call led else led
+event_booked w h n e led = if is_call w h n e led then after w h (lent_cells w h n e) e.call led else led
 
 abbrev pub event_made : (Lattice → Lattice) → (Lattice → Lattice) → ℕ → Event → Ledger → Lattice → Lattice
 event_made f g n e led l =
-    if is_call l.width l.height n e led then if_accepted (refusal l.width l.height (handed l.width l.height n e) e.call led) (effect f g e.call led l) l else l
+    if is_call l.width l.height n e led then if_accepted (refusal l.width l.height (lent_cells l.width l.height n e) e.call led) (effect f g e.call led l) l else l

@@ -1,5 +1,5 @@
 // The calls of a life.
-ghost use Rattle.std.specs.Prelude.{◌≡◌, ◌≢◌, ◌*◌, ℕ, List, length, true, IsTrue, if◌then◌else◌};
+ghost use Rattle.std.specs.Prelude.{◌≡◌, ◌≢◌, ◌*◌, ℕ, List, length, true, if◌then◌else◌};
 ghost use Rattle.any_bench.specs.AnyBenches.{any_map, any_start, any_ledger, any_handed};
 ghost use Rattle.any_bench.specs.declared.answer.Answer.TheVariants.{PassedOver, Refused};
 ghost use Rattle.faults.specs.declared.run.BenchRefusal.TheVariants.{Cells};

@@ -1,6 +1,6 @@
 // What the mirror of a bench is given.
 ghost use Rattle.std.specs.Prelude.{◌≡◌};
-ghost use Rattle.ledger.specs.Mirrors.{opposite, mirror_call};
+ghost use Rattle.ledger.specs.Mirrors.{opposite};
 ghost use Rattle.lives.specs.Mirrors.{mirror_event};
 
 use crate::event::Event;

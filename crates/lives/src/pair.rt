@@ -1,5 +1,5 @@
 // A bench and its mirror, given the same events.
-ghost use Rattle.std.specs.Prelude.{◌≡◌, ℕ, List, length};
+ghost use Rattle.std.specs.Prelude.{◌≡◌, length};
 ghost use Rattle.any_bench.specs.AnyBenches.{any_map, any_start, any_ledger, any_handed};
 ghost use Rattle.layers.specs.Parts.{reversed_of};
 ghost use Rattle.lattice.specs.Lattice.{Whole};
@@ -8,8 +8,6 @@ ghost use Rattle.ledger.proofs.Mirrored.{mirrored as mirrored_ledger};
 ghost use Rattle.ledger.specs.Ledgers.{at_opening};
 ghost use Rattle.lives.specs.Lives.{life_ledger, life_lattice};
 ghost use Rattle.lives.specs.Seen.{Recorded};
-ghost use Rattle.lives.specs.declared.event.Event.{Event as LifeEvent};
-ghost use Rattle.lives.specs.declared.event.Seen.{Seen as LifeSeen};
 
 use crate::calls::make_event;
 use crate::event::{Event, Seen};

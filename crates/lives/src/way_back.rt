@@ -1,6 +1,6 @@
 // The way back from where a life has led.
 ghost use Rattle.std.specs.Prelude.{◌≡◌, length};
-ghost use Rattle.any_bench.specs.AnyBenches.{any_map, any_start, any_ledger, any_handed};
+ghost use Rattle.any_bench.specs.AnyBenches.{any_map, any_ledger, any_handed};
 ghost use Rattle.lattice.specs.Lattice.{Lattice, Whole, Within};
 ghost use Rattle.ledger.proofs.Sound.{Sound};
 ghost use Rattle.ledger.specs.Effects.{standing_for};

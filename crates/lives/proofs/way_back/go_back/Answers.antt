@@ -1,19 +1,17 @@
-use Rattle.std.proofs.Common.{◌≡◌, [], length, take, drop, Ok, refl, sym, ap, ap₂, ◌∙◌, subst}
+use Rattle.std.proofs.Common.{◌≡◌, take, drop, refl, sym, ap, ap₂, ◌∙◌, subst}
 use Rattle.std.proofs.lemmas.List.{take_at}
-use Rattle.actions.specs.Actions.{home_of}
 use Rattle.any_bench.specs.AnyBenches.{any_ledger, any_handed}
 use Rattle.bench.specs.Benches.{ledger_of, handed}
 use Rattle.lattice.specs.Starts.{held}
 use Rattle.ledger.proofs.Sound.{Sound}
 use Rattle.ledger.specs.Effects.{standing_for}
-use Rattle.ledger.specs.Homes.{home_records, home_script}
+use Rattle.ledger.specs.Homes.{home_script}
 use Rattle.ledger.specs.Ledgers.{at_opening, counts}
 use Rattle.lives.proofs.WaysHome.{home_answer, home_scene, begins, counts_home}
 use Rattle.lives.proofs.way_back.go_back.Goals as goal
 use Rattle.lives.specs.WaysBack.{begun, Home}
 use Rattle.runs.specs.Runs.{run_answer, run_scene}
 use Rattle.runs.specs.Scenes.{rest_scene}
-use Rattle.scripts.specs.declared.state.State.TheVariants.{Rest}
 
 pub returns : goal.returns
 returns g c l within whole sound held_is =
