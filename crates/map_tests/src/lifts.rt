@@ -1,5 +1,5 @@
 // The lift, of a rule that counts and of one without symmetry.
-use crate::runs::{Run, check_run};
+use crate::runs::{Run, check_runs};
 use lattice::map::Map;
 use lattice::start::Start;
 use lift::map::Lift;
@@ -10,50 +10,46 @@ use std::test::Fail;
 #[test]
 fn a_rule_that_counts(rt: HostRuntime) -> Result<(), Fail> {
     let map = Lift::new(CountRule::new(74, 300)?);
-    check_run(
+    check_runs(
         &rt,
         &map,
-        Run {
-            phase: 0,
-            one: (0, [0xf300040b, 0x11234080, 0x03060cfe, 0x57a958a4]),
-            three: (0, [0xf1010609, 0x11204080, 0x02070cfc, 0x56ab59a5]),
-            back: (0, [0xf2030608, 0x10224082, 0x01070dfd, 0x56ab5ba4]),
-        },
-    )?;
-    check_run(
-        &rt,
-        &map,
-        Run {
-            phase: 1,
-            one: (1, [0xf300040b, 0x11234080, 0x03060cfe, 0x57a958a4]),
-            three: (1, [0xf1010609, 0x11204080, 0x02070cfc, 0x56ab59a5]),
-            back: (1, [0xf2030608, 0x10224082, 0x01070dfd, 0x56ab5ba4]),
-        },
+        [
+            Run {
+                phase: 0,
+                one: (0, [0xf300040b, 0x11234080, 0x03060cfe, 0x57a958a4]),
+                three: (0, [0xf1010609, 0x11204080, 0x02070cfc, 0x56ab59a5]),
+                back: (0, [0xf2030608, 0x10224082, 0x01070dfd, 0x56ab5ba4]),
+            },
+            Run {
+                phase: 1,
+                one: (1, [0xf300040b, 0x11234080, 0x03060cfe, 0x57a958a4]),
+                three: (1, [0xf1010609, 0x11204080, 0x02070cfc, 0x56ab59a5]),
+                back: (1, [0xf2030608, 0x10224082, 0x01070dfd, 0x56ab5ba4]),
+            },
+        ],
     )
 }
 
 #[test]
 fn a_rule_without_symmetry(rt: HostRuntime) -> Result<(), Fail> {
     let map = Lift::new(crooked());
-    check_run(
+    check_runs(
         &rt,
         &map,
-        Run {
-            phase: 0,
-            one: (0, [0xf301050a, 0x11234080, 0x02060cff, 0x56a859a4]),
-            three: (0, [0xf001070b, 0x10214082, 0x00050ffe, 0x56aa5ba5]),
-            back: (0, [0xf203060a, 0x12224082, 0x03070dfd, 0x54a95ba4]),
-        },
-    )?;
-    check_run(
-        &rt,
-        &map,
-        Run {
-            phase: 1,
-            one: (1, [0xf301050a, 0x11234080, 0x02060cff, 0x56a859a4]),
-            three: (1, [0xf001070b, 0x10214082, 0x00050ffe, 0x56aa5ba5]),
-            back: (1, [0xf203060a, 0x12224082, 0x03070dfd, 0x54a95ba4]),
-        },
+        [
+            Run {
+                phase: 0,
+                one: (0, [0xf301050a, 0x11234080, 0x02060cff, 0x56a859a4]),
+                three: (0, [0xf001070b, 0x10214082, 0x00050ffe, 0x56aa5ba5]),
+                back: (0, [0xf203060a, 0x12224082, 0x03070dfd, 0x54a95ba4]),
+            },
+            Run {
+                phase: 1,
+                one: (1, [0xf301050a, 0x11234080, 0x02060cff, 0x56a859a4]),
+                three: (1, [0xf001070b, 0x10214082, 0x00050ffe, 0x56aa5ba5]),
+                back: (1, [0xf203060a, 0x12224082, 0x03070dfd, 0x54a95ba4]),
+            },
+        ],
     )
 }
 

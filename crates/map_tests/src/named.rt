@@ -1,5 +1,5 @@
 // The named maps.
-use crate::runs::{Run, check_run};
+use crate::runs::{Run, check_runs};
 use lattice::map::Map;
 use lattice::start::Start;
 use named_maps::blocks::{bbm, critters, tron};
@@ -15,50 +15,46 @@ use std::test::Fail;
 #[test]
 fn life_lifted(rt: HostRuntime) -> Result<(), Fail> {
     let map = life2();
-    check_run(
+    check_runs(
         &rt,
         &map,
-        Run {
-            phase: 0,
-            one: (0, [0xf300040b, 0x10234080, 0x03060cfe, 0x56a958a4]),
-            three: (0, [0xf103060b, 0x10214083, 0x01040cff, 0x56aa58a6]),
-            back: (0, [0xf203060a, 0x10224082, 0x01070dfd, 0x56a959a4]),
-        },
-    )?;
-    check_run(
-        &rt,
-        &map,
-        Run {
-            phase: 1,
-            one: (1, [0xf300040b, 0x10234080, 0x03060cfe, 0x56a958a4]),
-            three: (1, [0xf103060b, 0x10214083, 0x01040cff, 0x56aa58a6]),
-            back: (1, [0xf203060a, 0x10224082, 0x01070dfd, 0x56a959a4]),
-        },
+        [
+            Run {
+                phase: 0,
+                one: (0, [0xf300040b, 0x10234080, 0x03060cfe, 0x56a958a4]),
+                three: (0, [0xf103060b, 0x10214083, 0x01040cff, 0x56aa58a6]),
+                back: (0, [0xf203060a, 0x10224082, 0x01070dfd, 0x56a959a4]),
+            },
+            Run {
+                phase: 1,
+                one: (1, [0xf300040b, 0x10234080, 0x03060cfe, 0x56a958a4]),
+                three: (1, [0xf103060b, 0x10214083, 0x01040cff, 0x56aa58a6]),
+                back: (1, [0xf203060a, 0x10224082, 0x01070dfd, 0x56a959a4]),
+            },
+        ],
     )
 }
 
 #[test]
 fn a_mixed_stack(rt: HostRuntime) -> Result<(), Fail> {
     let map = mixed();
-    check_run(
+    check_runs(
         &rt,
         &map,
-        Run {
-            phase: 0,
-            one: (1, [0xf1030508, 0x11204282, 0x03050dfd, 0x55ab58a6]),
-            three: (1, [0xf1020508, 0x10234383, 0x02060cff, 0x54a85aa4]),
-            back: (1, [0xf0030509, 0x10214082, 0x02060efc, 0x57aa58a6]),
-        },
-    )?;
-    check_run(
-        &rt,
-        &map,
-        Run {
-            phase: 1,
-            one: (0, [0xf0000408, 0x13224083, 0x03060cfd, 0x54ab5ba6]),
-            three: (0, [0xf1010509, 0x10224181, 0x02070cff, 0x55ab5ba7]),
-            back: (0, [0xf0030408, 0x11224280, 0x00040cff, 0x54ab58a4]),
-        },
+        [
+            Run {
+                phase: 0,
+                one: (1, [0xf1030508, 0x11204282, 0x03050dfd, 0x55ab58a6]),
+                three: (1, [0xf1020508, 0x10234383, 0x02060cff, 0x54a85aa4]),
+                back: (1, [0xf0030509, 0x10214082, 0x02060efc, 0x57aa58a6]),
+            },
+            Run {
+                phase: 1,
+                one: (0, [0xf0000408, 0x13224083, 0x03060cfd, 0x54ab5ba6]),
+                three: (0, [0xf1010509, 0x10224181, 0x02070cff, 0x55ab5ba7]),
+                back: (0, [0xf0030408, 0x11224280, 0x00040cff, 0x54ab58a4]),
+            },
+        ],
     )
 }
 

@@ -24,7 +24,7 @@ fn check_at(rt: &impl Abort, held: &Start, cells: &[[u8; 4]; 4], expected: (u8, 
     assert!(rt; *cells == cells_of(expected.1));
 }
 
-pub(crate) fn check_run(rt: &impl Abort, map: &impl Map, run: Run) -> Result<(), Fail> {
+fn check_moves(rt: &impl Abort, map: &impl Map, run: Run) -> Result<(), Fail> {
     let mut held = Start::new(4, 4, run.phase)?;
     let mut cells = ALL_KINDS;
     map.advance(&mut held, cells.as_flattened_mut());
@@ -37,5 +37,13 @@ pub(crate) fn check_run(rt: &impl Abort, map: &impl Map, run: Run) -> Result<(),
     assert!(rt; cells == ALL_KINDS && u32::from(held.phase()) == run.phase);
     map.retreat(&mut held, cells.as_flattened_mut());
     check_at(rt, &held, &cells, run.back);
+    Ok(())
+}
+
+// The runs from both phases.
+pub(crate) fn check_runs(rt: &impl Abort, map: &impl Map, runs: [Run; 2]) -> Result<(), Fail> {
+    for run in runs {
+        check_moves(rt, map, run)?;
+    }
     Ok(())
 }

@@ -81,13 +81,16 @@ fn show_stacks(rt: &(impl Print + Alloc), opening: Start) -> anyhow::Result<()> 
 
 fn show_named(rt: &(impl Print + Alloc), opening: Start) -> anyhow::Result<()> {
     let maps = [
-        ("bbm", NamedMap::Bbm),
-        ("critters", NamedMap::Critters),
-        ("tron", NamedMap::Tron),
-        ("life2", NamedMap::Life2),
-        ("mixed", NamedMap::Mixed),
+        NamedMap::Bbm,
+        NamedMap::Critters,
+        NamedMap::Tron,
+        NamedMap::Life2,
+        NamedMap::Mixed,
     ];
-    show_each(rt, "named", &maps, opening)
+    for map in maps {
+        show(rt, "named", map.name(), &map, opening)?;
+    }
+    Ok(())
 }
 
 pub(crate) fn show_all(rt: &(impl Print + Alloc), opening: Start) -> anyhow::Result<()> {
