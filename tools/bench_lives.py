@@ -4,9 +4,8 @@ import bench_model
 import model
 import text_model
 from bench_model import SMALLEST_COUNT, Entry
+from bench_walk import answer_written, opening, show_board, tabs_between
 
-WIDTH = 12
-HEIGHT = 8
 SECOND = 100
 
 LARGEST_COUNT = 2147483647
@@ -70,29 +69,8 @@ OPEN_END = [
 ]
 
 
-def opening():
-    cells = [(k * k // 3 + 5 * k + k // 7 + 7) % 256 for k in range(WIDTH * HEIGHT)]
-    return model.Lattice(WIDTH, HEIGHT, 0, cells)
-
-
-def tabs_between(fields):
-    return "\t".join(str(field) for field in fields)
-
-
-def answer_written(answer, refusal):
-    if refusal is not None:
-        return f"refused {refusal}"
-    if answer == bench_model.GIVEN:
-        return answer
-    return f"{answer} stand"
-
-
 def lent_written(part):
     return "own" if part is None else f"part {part}"
-
-
-def show_board(lattice):
-    print(text_model.board_written(lattice).decode(), end="")
 
 
 def told_fields(told):

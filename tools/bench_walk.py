@@ -3,6 +3,7 @@
 import bench_model
 import model
 import text_model
+from samples import sown
 
 WIDTH = 12
 HEIGHT = 8
@@ -34,8 +35,7 @@ CALLS = [
 
 
 def opening():
-    cells = [(k * k // 3 + 5 * k + k // 7 + 7) % 256 for k in range(WIDTH * HEIGHT)]
-    return model.Lattice(WIDTH, HEIGHT, 0, cells)
+    return model.Lattice(WIDTH, HEIGHT, 0, sown(WIDTH * HEIGHT))
 
 
 def tabs_between(fields):
@@ -80,6 +80,7 @@ def walk(name):
     print(tabs_between(["the opening board", "yes" if same else "no"]))
 
 
-walk("critters")
-print()
-walk("mixed")
+if __name__ == "__main__":
+    walk("critters")
+    print()
+    walk("mixed")

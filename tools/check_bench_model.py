@@ -9,17 +9,9 @@ import model
 import text_model
 import text_vectors
 from bench_model import SMALLEST_COUNT, Entry, call, counts, held, live, new_bench, run
+from checks import check, tell_passed
 from model import Lattice
 from text_model import REST, SESSION
-
-passed = 0
-
-
-def check(what, got, expected):
-    global passed
-    if got != expected:
-        raise AssertionError(f"{what}: got {got}, expected {expected}")
-    passed += 1
 
 
 def text_of(*lines):
@@ -878,4 +870,4 @@ for end in wanted:
     check(f"at least 5 of {end}", ends[end] >= 5, True)
 
 
-print(f"bench model: {passed} checks passed")
+tell_passed("bench model")

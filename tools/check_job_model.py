@@ -10,19 +10,10 @@ import jobs
 import model
 import text_model
 import text_vectors
+from checks import check, tell_passed
 from job_model import home_and_mirror, lab, run_job
 from model import Lattice
 from text_vectors import text_of
-
-passed = 0
-
-
-def check(what, got, expected):
-    global passed
-    if got != expected:
-        raise AssertionError(f"{what}: got {got}, expected {expected}")
-    passed += 1
-
 
 # --- The worked example, by hand ------------------------------------------------------------------
 
@@ -540,4 +531,4 @@ gas = opening_of("gas.job")
 check("the crowd keeps its cells", len(places(after("critters", gas, 40))), len(places(gas)))
 
 
-print(f"job model: {passed} checks passed")
+tell_passed("job model")

@@ -4,16 +4,8 @@ import random
 from itertools import combinations
 
 import model
+from checks import check, tell_passed
 from model import BLOCK_TABLES, CELL_TABLES, Lattice
-
-passed = 0
-
-
-def check(what, got, expected):
-    global passed
-    if got != expected:
-        raise AssertionError(f"{what}: got {got}, expected {expected}")
-    passed += 1
 
 
 def from_hex(width, height, phase, text):
@@ -701,4 +693,4 @@ for lattice in lattices():
         check(f"times {count} one by one", repeated.forward(lattice), one_by_one)
 
 
-print(f"model: {passed} checks passed")
+tell_passed("model")

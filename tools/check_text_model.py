@@ -8,17 +8,9 @@ import model
 import read_texts
 import text_model
 import text_vectors
+from checks import check, tell_passed
 from model import Lattice
 from text_model import check_board, check_script, read_board, write_board
-
-passed = 0
-
-
-def check(what, got, expected):
-    global passed
-    if got != expected:
-        raise AssertionError(f"{what}: got {got}, expected {expected}")
-    passed += 1
 
 
 def text_of(*lines):
@@ -665,4 +657,4 @@ for name, printed in [
     check(f"what is printed for {name}", read_texts.printed(name, files[name]), printed)
 
 
-print(f"text model: {passed} checks passed")
+tell_passed("text model")

@@ -13,6 +13,7 @@ import model
 import text_model
 import text_vectors
 from model import Lattice
+from samples import digest
 from text_vectors import chance, text_of, text_of_lines
 
 # begun anew, so that the jobs do not depend on how many texts `text_vectors` makes
@@ -430,7 +431,7 @@ def output_line(vector):
         counts = job_model.of_the_bench(bench_model.counts(done.bench))
         told = ["done", done.made, *counts, held.width, held.height, held.phase]
     printed = job_model.lab(text)
-    digests = [text_vectors.digest(memory), len(printed), text_vectors.digest(printed)]
+    digests = [digest(memory), len(printed), digest(printed)]
     return text_vectors.blanks_between(told + digests)
 
 

@@ -1,6 +1,7 @@
 """Prints what the program `map_vectors` prints (docs/PROGRAMS.md), computed by the model."""
 
 import model
+from samples import digest, sown
 
 # Width and height.
 SHAPES = [(2, 2), (2, 4), (4, 2), (6, 4), (2, 256), (256, 2), (16, 10), (128, 128), (256, 64)]
@@ -37,18 +38,6 @@ MAPS = [
 ]
 
 
-def start_lattice(width, height, phase):
-    cells = [(k * k // 3 + 5 * k + k // 7 + 7) % 256 for k in range(width * height)]
-    return model.Lattice(width, height, phase, cells)
-
-
-def digest(lattice):
-    d = 0
-    for cell in lattice.cells:
-        d = (31 * d + cell + 1) % 65521
-    return d
-
-
 def vector(kind, name, the_map, start):
     one = model.advance_by(the_map, start, 1)
     ten = model.advance_by(the_map, start, 10)
@@ -58,9 +47,9 @@ def vector(kind, name, the_map, start):
     fields = [
         kind, name,
         start.width, start.height, start.phase,
-        digest(one), one.phase,
-        digest(ten), ten.phase,
-        digest(back), back.phase,
+        digest(one.cells), one.phase,
+        digest(ten.cells), ten.phase,
+        digest(back.cells), back.phase,
         "home" if came_home else "lost",
     ]
     return " ".join(str(field) for field in fields)
@@ -69,4 +58,5 @@ def vector(kind, name, the_map, start):
 for width, height in SHAPES:
     for phase in [0, 1]:
         for kind, name, the_map in MAPS:
-            print(vector(kind, name, the_map, start_lattice(width, height, phase)))
+            start = model.Lattice(width, height, phase, sown(width * height))
+            print(vector(kind, name, the_map, start))

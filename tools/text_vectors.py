@@ -9,6 +9,7 @@ import sys
 
 import text_model
 from model import Lattice
+from samples import digest
 
 chance = random.Random(1)
 
@@ -729,13 +730,6 @@ def input_line(vector):
 
 def memory_before(size):
     return [7 * k % 256 for k in range(size)]
-
-
-def digest(memory):
-    d = 0
-    for cell in memory:
-        d = (31 * d + cell + 1) % 65521
-    return d
 
 
 def blanks_between(fields):
