@@ -1,4 +1,4 @@
--- What reading a single line of a board says, for a reader that stands at the beginning of a line.
+-- What reading a single line of a board says, for a reader that stands at the beginning of a line. Cited by inner functions alone.
 --     lines_left r        the lines that are left to read
 --     LineDown r s        s is r behind its line
 --     LineGiven r a s     r answers a to the question for the next line, and is then s

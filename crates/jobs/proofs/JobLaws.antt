@@ -25,10 +25,9 @@ use Rattle.text.specs.Lines.{below_first, lines, ended}
 use Rattle.text.specs.Wholes.{max_text, finished, whole}
 use Rattle.jobs.proofs.JobParts.{JobParts, job_parts}
 use Rattle.jobs.proofs.MapLineLaws.{map_line_was, map_content, map_line_taken, below_map_line}
-use Rattle.jobs.specs.Answers.{JobOpened, Filled}
+use Rattle.jobs.specs.Answers.{Filled, Opens, JobOpened}
 use Rattle.jobs.specs.Jobs.{Job, map_at, if_room, board_in, script_line, job_below, job}
 use Rattle.jobs.specs.Laws.{map_line, job_text, IsJob}
-use Rattle.jobs.specs.Steps.{Opens}
 use Rattle.jobs.specs.declared.opening.Opening.{Opening}
 
 -- what was read

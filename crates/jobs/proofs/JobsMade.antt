@@ -14,10 +14,9 @@ use Rattle.runs.specs.Runs.{first_refused, answer_of, asked, run_answer, run_of,
 use Rattle.runs.specs.Scenes.{rest_scene}
 use Rattle.scripts.specs.Judgements.{script}
 use Rattle.scripts.specs.Runs.{risen}
-use Rattle.jobs.specs.Answers.{JobMade}
+use Rattle.jobs.specs.Answers.{Opens, JobMade}
 use Rattle.jobs.specs.Jobs.{Job}
 use Rattle.jobs.specs.Outcomes.{first_scene, answer, outcome}
-use Rattle.jobs.specs.Steps.{Opens}
 use Rattle.jobs.specs.declared.done.Done.{Done}
 use Rattle.jobs.specs.declared.opening.Opening.{Opening}
 

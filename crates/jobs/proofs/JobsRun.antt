@@ -5,10 +5,10 @@ use Rattle.faults.specs.declared.record.RecordFault.{RecordFault}
 use Rattle.faults.specs.declared.run.RunFault.{RunFault}
 use Rattle.lattice.specs.Lattice.{Lattice}
 use Rattle.lattice.specs.Starts.{width_of, height_of}
-use Rattle.jobs.specs.Answers.{Filled, JobOpened, JobMade, JobRun}
+use Rattle.jobs.specs.Answers.{Filled, Opens, JobOpened, JobMade, JobRun}
 use Rattle.jobs.specs.Jobs.{Job}
 use Rattle.jobs.specs.Outcomes.{outcome}
-use Rattle.jobs.specs.Steps.{Opens, OpenedOn}
+use Rattle.jobs.specs.Steps.{OpenedOn}
 use Rattle.jobs.specs.declared.done.Done.{Done}
 use Rattle.jobs.specs.declared.opening.Opening.{Opening}
 

@@ -1,5 +1,6 @@
 -- What the calls that take jobs answer.
 --     Filled cs old new            a memory of `old` then holds `new`: the cells cs, and behind them what it held
+--     Opens j bs o                 o is what the job j opens with, whose text is bs. Where its script begins follows from the script's records, for they have one writing
 --     JobOpened a bs old new r     r is what opening the job a answers, whose text is bs; a memory of `old` then holds `new`
 --     JobTold j r                  r is what running the job j answers
 --     JobMade j cs r               the same, and the cells are cs then
@@ -8,16 +9,25 @@ use Rattle.std.specs.Prelude.{◌≡◌, ℕ, ◌≤◌, List, ◌++◌, length,
 use Rattle.faults.specs.declared.record.RecordFault.{RecordFault}
 use Rattle.faults.specs.declared.run.RunFault.{RunFault}
 use Rattle.faults.specs.declared.run.RunFault.TheVariants.{Record}
+use Rattle.lattice.specs.Lattice.{Whole}
 use Rattle.lattice.specs.Starts.{StartOf}
 use Rattle.ledger.specs.Ledgers.{counts}
-use Rattle.jobs.specs.Jobs.{Job}
+use Rattle.scripts.specs.Judgements.{script}
+use Rattle.jobs.specs.Jobs.{Job, script_line}
 use Rattle.jobs.specs.Outcomes.{answer, outcome}
-use Rattle.jobs.specs.Steps.{Opens}
 use Rattle.jobs.specs.declared.done.Done.{Done}
 use Rattle.jobs.specs.declared.opening.Opening.{Opening}
 
 abbrev pub Filled : List ℕ → List ℕ → List ℕ → Type 0
 Filled cs old new = (length cs ≤ length old) × (new ≡ cs ++ drop (length cs) old)
+
+pub record Opens (j : Job) (bs : List ℕ) (o : Opening) : Type 0 where
+  pub map : o.map ≡ j.map
+  pub start : StartOf j.lattice o.start
+  pub whole : Whole j.lattice
+  pub line : o.script_line ≡ script_line j.lattice
+  pub inside : o.script_at ≤ length bs
+  pub script : script o.script_line (drop o.script_at bs) ≡ Ok j.records
 
 abbrev pub JobOpened : Result Job RecordFault → List ℕ → List ℕ → List ℕ → Result Opening RecordFault → Type 0
 JobOpened (Ok j) bs old new (Ok o) = Opens j bs o × Filled j.lattice.cells old new

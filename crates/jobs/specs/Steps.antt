@@ -1,7 +1,6 @@
--- What the parts of reading a job find.
+-- What the parts of reading a job find. Cited by inner functions alone.
 --     MapFound bs r           r is the map that the first line of bs names, and where the next line begins; or the first fault
 --     ScriptFound h bs r      r is the first line of the script bs behind a board of h rows, or the first fault of the script
---     Opens j bs o            o is what the job j opens with, whose text is bs. Where its script begins follows from the script's records, for they have one writing
 --     BelowFound k m p bs r   r is what looking for a job over the map m answers, whose board begins at place p of the text bs, where the cells memory has k bytes
 --     JobFound k bs r         r is what looking for a job in bs answers: what it opens with, and where its board begins; or the first fault
 --     OpenedOn bs o cs        o is what a job opens with, whose text is bs, and cs are the cells of its board
@@ -10,11 +9,10 @@ use Rattle.boards.specs.Reading.{on_first}
 use Rattle.faults.specs.declared.record.RecordFault.{RecordFault}
 use Rattle.named_maps.specs.declared.named.NamedMap.{NamedMap}
 use Rattle.text.specs.Lines.{below_first, lines}
-use Rattle.lattice.specs.Lattice.{Whole}
-use Rattle.lattice.specs.Starts.{StartOf}
 use Rattle.scripts.specs.Judgements.{script}
 use Rattle.scripts.specs.declared.record.Record.{Record}
-use Rattle.jobs.specs.Jobs.{Job, map_at, script_line, job_below, job}
+use Rattle.jobs.specs.Answers.{Opens}
+use Rattle.jobs.specs.Jobs.{Job, map_at, job_below, job}
 use Rattle.jobs.specs.declared.opening.Opening.{Opening}
 
 abbrev pub MapFound : List ℕ → Result (NamedMap × ℕ) RecordFault → Type 0
@@ -24,14 +22,6 @@ MapFound bs (Err e) = on_first map_at 1 (lines bs) ≡ Err e
 abbrev pub ScriptFound : ℕ → List ℕ → Result ℕ RecordFault → Type 0
 ScriptFound h bs (Ok n) = (n ≡ 3 + h) × ((rs : List Record) × (script n bs ≡ Ok rs))
 ScriptFound h bs (Err e) = script (3 + h) bs ≡ Err e
-
-pub record Opens (j : Job) (bs : List ℕ) (o : Opening) : Type 0 where
-  pub map : o.map ≡ j.map
-  pub start : StartOf j.lattice o.start
-  pub whole : Whole j.lattice
-  pub line : o.script_line ≡ script_line j.lattice
-  pub inside : o.script_at ≤ length bs
-  pub script : script o.script_line (drop o.script_at bs) ≡ Ok j.records
 
 abbrev pub BelowFound : ℕ → NamedMap → ℕ → List ℕ → Result Opening RecordFault → Type 0
 BelowFound k m p bs (Ok o) = (j : Job) × (job_below k m (drop p bs) ≡ Ok j) × Opens j bs o

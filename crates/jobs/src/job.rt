@@ -1,9 +1,9 @@
 // The run of a job.
 ghost use Rattle.std.specs.Prelude.{◌≡◌, ◌≤◌, length};
-ghost use Rattle.jobs.specs.Answers.{JobRun, JobMade};
+ghost use Rattle.jobs.specs.Answers.{Opens, JobRun, JobMade};
 ghost use Rattle.jobs.specs.Jobs.{Job, job};
 ghost use Rattle.jobs.specs.Laws.{IsJob, StandsOn};
-ghost use Rattle.jobs.specs.Steps.{Opens, OpenedOn};
+ghost use Rattle.jobs.specs.Steps.{OpenedOn};
 
 use crate::done::Done;
 use crate::opening::{Opening, open_job};

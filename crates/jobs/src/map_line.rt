@@ -1,6 +1,5 @@
 // The first line of a job.
 ghost use Rattle.std.specs.Prelude.{◌≡◌, ℕ, List, ok_or};
-ghost use Rattle.named_maps.specs.Choice.{map_named};
 ghost use Rattle.text.specs.FieldsOfLines.{HasFields, StandsFrom};
 ghost use Rattle.jobs.specs.Jobs.{map_at};
 ghost use Rattle.jobs.specs.Steps.{MapFound};

@@ -1,9 +1,8 @@
 // What a job opens with.
 ghost use Rattle.std.specs.Prelude.{◌≤◌, length, Ok, IfOk};
-ghost use Rattle.jobs.specs.Answers.{JobOpened, Filled};
+ghost use Rattle.jobs.specs.Answers.{Filled, Opens, JobOpened};
 ghost use Rattle.jobs.specs.Jobs.{Job, job};
 ghost use Rattle.jobs.specs.Laws.{IsJob};
-ghost use Rattle.jobs.specs.Steps.{Opens};
 
 use crate::find::{BOARD_LINE, below, find_job};
 use boards::read::read_board;

@@ -1,4 +1,4 @@
--- A run, record by record, as it is made. Here f and g are the two functions of the map.
+-- A run, record by record, as it is made. Cited by inner functions alone. Here f and g are the two functions of the map.
 --     fault_in a n                  the fault of the run, if a is answered to the record on line n
 --     unless_refused a x y          x, or y if the answer a is a refusal
 --     answer_after a n x            x, or the fault of line n if the answer a is a refusal
