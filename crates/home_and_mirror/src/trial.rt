@@ -7,9 +7,10 @@ ghost use Rattle.scripts.specs.declared.state.State.TheVariants.{Rest};
 
 use crate::shown::{show_home, show_mirror};
 use anyhow::bail;
-use job_texts::lab_text::{lab_text, max_cells};
+use job_texts::lab_text::lab_text;
 use jobs::job::run_job;
 use jobs::opening::{Opening, open_job};
+use lattice::start::max_cells;
 use lives::event::{Event, Lent};
 use lives::life::live;
 use lives::memories::Memories;

@@ -5,7 +5,6 @@ ghost use Rattle.job_texts.specs.Texts.{fault_line, printed_for, lab_text};
 ghost use Rattle.jobs.specs.Texts.{done_text};
 ghost use Rattle.text.specs.Lines.{ended};
 ghost use Rattle.lattice.specs.Lattice.{Whole};
-ghost use Rattle.lattice.specs.Limits.{max_area};
 ghost use Rattle.lattice.specs.Starts.{held};
 
 use boards::text::board_text;
@@ -13,6 +12,7 @@ use faults::report::Report;
 use faults::run::RunFault;
 use jobs::done::Done;
 use jobs::job::run_job;
+use lattice::start::max_cells;
 use std::alloc::{AllocError, Global};
 
 // The line of a fault.
@@ -42,13 +42,6 @@ fn text_in(job: &[u8], cells: &mut [u8], heap: Global) -> Result<Vec<u8>, AllocE
         Ok(done) => done_text(&done, &cells[..done.start.cell_count()], heap),
         Err(fault) => fault_line(fault, heap),
     }
-}
-
-// Room for the cells of every lattice.
-pub fn max_cells() -> usize
-    ensures { result ≡ max_area }
-{
-    16_384
 }
 
 // All that the program `lab` prints for this job. An error is want of memory.

@@ -21,6 +21,13 @@ pub struct Start {
     ghost phased: { phase ≤ max_phase },
 }
 
+// Room for the cells of every lattice.
+pub fn max_cells() -> usize
+    ensures { result ≡ max_area }
+{
+    MAX_AREA as usize
+}
+
 fn is_side(n: u32) -> bool
     ensures { result ≡ side_test n }
 {

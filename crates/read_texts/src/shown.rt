@@ -3,11 +3,10 @@ use anyhow::Context;
 use boards::read::read_board;
 use boards::text::board_text;
 use faults::report::Report;
+use lattice::start::max_cells;
 use scripts::check::check;
 use std::io;
 use std::io::Write;
-
-const MAX_CELLS: usize = 16_384;
 
 pub(crate) fn show_script(rt: &HostRuntime, name: &str, text: &[u8]) -> anyhow::Result<()> {
     match check(text, 1) {
@@ -19,7 +18,7 @@ pub(crate) fn show_script(rt: &HostRuntime, name: &str, text: &[u8]) -> anyhow::
 
 // A board that was read is written back, and what was written is printed.
 pub(crate) fn show_board(rt: &HostRuntime, name: &str, text: &[u8]) -> anyhow::Result<()> {
-    let mut cells = vec![in rt.alloc(); 0u8; MAX_CELLS]?;
+    let mut cells = vec![in rt.alloc(); 0u8; max_cells()]?;
     let (start, len) = match read_board(text, 1, &mut cells) {
         Ok(found) => found,
         Err(fault) => {
