@@ -4,6 +4,7 @@ pub mod Overlays
 pub mod Passes
 pub mod Places
 pub mod Repeats
+pub mod Reversed
 pub mod Starts
 pub mod Torus
 pub mod Wholes

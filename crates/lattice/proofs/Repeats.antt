@@ -1,10 +1,11 @@
 -- A function made again and again. Assumes nothing.
 use Rattle.std.proofs.Common.{◌≡◌, ℕ, zero, suc, ◌+◌, List, sym, refl, ap, ◌∙◌, add-one}
-use Rattle.lattice.specs.Lattice.{Lattice, Within}
+use Rattle.lattice.specs.Lattice.{Lattice, Whole, Within, SameShape}
 use Rattle.lattice.specs.Maps.{UndoneBy, Keeps, repeated}
 use Rattle.lattice.specs.Overlays.{laid_over}
 use Rattle.lattice.specs.Starts.{held, StartOf}
 use Rattle.lattice.specs.declared.start.Start.{Start}
+use Rattle.lattice.proofs.Wholes.{same_shape, same_shape_trans}
 
 -- the step of a loop that makes one move a turn
 pub one_more : (f : Lattice → Lattice) (n : ℕ) (first here next : Lattice) → here ≡ repeated n f first → next ≡ f here → next ≡ repeated (n + 1) f first
@@ -18,6 +19,21 @@ repeated_tail f (suc n) l = ap f (repeated_tail f n l)
 pub repeated_within : (f : Lattice → Lattice) → Keeps f → (n : ℕ) (l : Lattice) → Within l → Within (repeated n f l)
 repeated_within f keeps zero l w = w
 repeated_within f keeps (suc n) l w = keeps.within (repeated n f l) (repeated_within f keeps n l w)
+
+pub repeated_keeps : (f : Lattice → Lattice) → Keeps f → (n : ℕ) → Keeps (repeated n f)
+repeated_keeps f k n = record {
+  shape = λ l w. shape n l w;
+  within = λ l w. repeated_within f k n l w;
+  partial = λ l w part. partial n l w part;
+}
+  where
+    shape : (n : ℕ) (l : Lattice) → Within l → SameShape l (repeated n f l)
+    shape zero l w = same_shape l
+    shape (suc n) l w = same_shape_trans l (repeated n f l) (f (repeated n f l)) (shape n l w) (k.shape (repeated n f l) (repeated_within f k n l w))
+
+    partial : (n : ℕ) (l : Lattice) → Within l → (Whole l → ⊥) → repeated n f l ≡ l
+    partial zero l w part = refl
+    partial (suc n) l w part = ap f (partial n l w part) ∙ k.partial l w part
 
 -- as many moves back as forward lead home
 pub repeated_undone : (f g : Lattice → Lattice) → Keeps f → UndoneBy f g → (n : ℕ) (l : Lattice) → Within l → repeated n g (repeated n f l) ≡ l

@@ -1,11 +1,11 @@
 -- What the layers keep and undo, if their parts do, and that they leave the free bits of every cell, if these do. Assumes nothing.
-use Rattle.std.specs.Prelude.{◌≡◌, ℕ, zero, suc, refl}
+use Rattle.std.specs.Prelude.{ℕ}
 use Rattle.std.proofs.Common.{◌∙◌, ap}
-use Rattle.lattice.specs.Lattice.{Lattice, Whole, Within, SameShape}
+use Rattle.lattice.specs.Lattice.{Lattice}
 use Rattle.lattice.specs.Maps.{UndoneBy, Keeps, Reversible, repeated}
 use Rattle.lattice.proofs.FreeBits.{FreeBitsStay, LeavesFreeBits, repeated_free}
-use Rattle.lattice.proofs.Wholes.{same_shape, same_shape_trans}
-use Rattle.lattice.proofs.Repeats.{repeated_within, repeated_undone}
+use Rattle.lattice.proofs.Wholes.{same_shape_trans}
+use Rattle.lattice.proofs.Repeats.{repeated_undone, repeated_keeps}
 use Rattle.layers.specs.Layers.{one_then, between}
 
 pub then_keeps : (f g : Lattice → Lattice) → Keeps f → Keeps g → Keeps (one_then f g)
@@ -17,21 +17,6 @@ then_keeps f g kf kg = record {
 
 pub then_undone : (f f' g g' : Lattice → Lattice) → Keeps f → UndoneBy f f' → UndoneBy g g' → UndoneBy (one_then f g) (one_then g' f')
 then_undone f f' g g' kf uf ug l w = ap f' (ug (f l) (kf.within l w)) ∙ uf l w
-
-pub repeated_keeps : (f : Lattice → Lattice) → Keeps f → (n : ℕ) → Keeps (repeated n f)
-repeated_keeps f k n = record {
-  shape = λ l w. shape n l w;
-  within = λ l w. repeated_within f k n l w;
-  partial = λ l w part. partial n l w part;
-}
-  where
-    shape : (n : ℕ) (l : Lattice) → Within l → SameShape l (repeated n f l)
-    shape zero l w = same_shape l
-    shape (suc n) l w = same_shape_trans l (repeated n f l) (f (repeated n f l)) (shape n l w) (k.shape (repeated n f l) (repeated_within f k n l w))
-
-    partial : (n : ℕ) (l : Lattice) → Within l → (Whole l → ⊥) → repeated n f l ≡ l
-    partial zero l w part = refl
-    partial (suc n) l w part = ap f (partial n l w part) ∙ k.partial l w part
 
 -- through b there and through b' back: what b' undoes at the end, b does at the beginning
 pub between_keeps : (f b b' : Lattice → Lattice) → Keeps f → Keeps b → Keeps b' → Keeps (between f b b')
@@ -78,14 +63,6 @@ module _ {f f' g g' : Lattice → Lattice} where
   }
 
 module _ {f f' : Lattice → Lattice} where
-  pub reverse_laws : Reversible f f' → Reversible f' f
-  reverse_laws a = record {
-    back_undoes_forward = a.forward_undoes_back;
-    forward_undoes_back = a.back_undoes_forward;
-    forward_keeps = a.backward_keeps;
-    backward_keeps = a.forward_keeps;
-  }
-
   pub reverse_free : LeavesFreeBits f f' → LeavesFreeBits f' f
   reverse_free fa = record { forward = fa.backward; backward = fa.forward }
 

@@ -1,6 +1,6 @@
 // A map with forward and back exchanged.
 ghost use Rattle.std.specs.Prelude.{◌≡◌};
-ghost use Rattle.layers.specs.Laws.{reverse_laws};
+ghost use Rattle.lattice.proofs.Reversed.{reverse_laws};
 ghost use Rattle.layers.specs.Parts.{reversed_of};
 
 use lattice::map::Map;

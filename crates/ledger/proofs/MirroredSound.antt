@@ -3,8 +3,6 @@ use Rattle.std.proofs.Common.{ℕ, List, map, ap, arith}
 use Rattle.std.proofs.lemmas.List.Elements.{All-weaker, All-map}
 use Rattle.std.specs.List.{All}
 use Rattle.actions.specs.Actions.{Action, Step, Edit}
-use Rattle.lattice.specs.Lattice.{Lattice}
-use Rattle.lattice.specs.Maps.{Reversible}
 use Rattle.ledger.proofs.Mirrored.{mirror_action, mirrored, same_entries, abs_neg}
 use Rattle.ledger.proofs.Sound.{Sound, ActionOn}
 use Rattle.ledger.specs.Ledgers.{Ledger}
@@ -25,6 +23,3 @@ mirrored_sound w h led s = record {
   at_rest = s.at_rest;
   in_session = λ i. ap (map mirror_action) (s.in_session i);
 }
-
-pub reversed_laws : (f g : Lattice → Lattice) → Reversible f g → Reversible g f
-reversed_laws f g laws = record { back_undoes_forward = laws.forward_undoes_back; forward_undoes_back = laws.back_undoes_forward; forward_keeps = laws.backward_keeps; backward_keeps = laws.forward_keeps }

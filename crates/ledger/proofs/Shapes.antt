@@ -1,5 +1,5 @@
 -- What a bench does keeps the shape of its lattice. Assumes nothing.
-use Rattle.std.proofs.Common.{ℕ, suc, pos, negsuc, zero, List, [], ◌∷◌, refl}
+use Rattle.std.proofs.Common.{ℕ, suc, pos, negsuc, List, [], ◌∷◌, refl}
 use Rattle.std.proofs.lemmas.List.{length-set}
 use Rattle.std.proofs.lemmas.List.Elements.{All-head, All-tail}
 use Rattle.std.specs.List.{All}
@@ -7,18 +7,14 @@ use Rattle.actions.proofs.Home.{ByteMasks, made_within}
 use Rattle.actions.specs.Actions.{Action, Step, Edit, made, all_made}
 use Rattle.actions.specs.Flips.{flipped, all_flipped}
 use Rattle.actions.specs.declared.flip.Flip.{Flip}
-use Rattle.lattice.proofs.Repeats.{repeated_within}
+use Rattle.lattice.proofs.Repeats.{repeated_keeps}
 use Rattle.lattice.proofs.Wholes.{same_shape, same_shape_trans}
 use Rattle.lattice.specs.Lattice.{Lattice, Within, SameShape}
-use Rattle.lattice.specs.Maps.{Reversible, Keeps, repeated}
+use Rattle.lattice.specs.Maps.{Reversible}
 use Rattle.ledger.proofs.Held.{byte_masks}
 use Rattle.ledger.proofs.Sound.{Sound}
 use Rattle.ledger.specs.Effects.{standing_for}
 use Rattle.ledger.specs.Ledgers.{Ledger}
-
-repeated_shape : (f : Lattice → Lattice) → Keeps f → (n : ℕ) (l : Lattice) → Within l → SameShape l (repeated n f l)
-repeated_shape f keeps zero l i = same_shape l
-repeated_shape f keeps (suc n) l i = same_shape_trans l (repeated n f l) (f (repeated n f l)) (repeated_shape f keeps n l i) (keeps.shape (repeated n f l) (repeated_within f keeps n l i))
 
 all_flipped_shape : (fs : List Flip) (l : Lattice) → SameShape l (all_flipped fs l)
 all_flipped_shape [] l = same_shape l
@@ -28,8 +24,8 @@ all_flipped_shape (f ∷ fs) l =
 
 module _ (f g : Lattice → Lattice) (laws : Reversible f g) where
   made_shape : (a : Action) (l : Lattice) → Within l → SameShape l (made f g a l)
-  made_shape (Step (pos n)) l i = repeated_shape f laws.forward_keeps n l i
-  made_shape (Step (negsuc n)) l i = repeated_shape g laws.backward_keeps (suc n) l i
+  made_shape (Step (pos n)) l i = (repeated_keeps f laws.forward_keeps n).shape l i
+  made_shape (Step (negsuc n)) l i = (repeated_keeps g laws.backward_keeps (suc n)).shape l i
   made_shape (Edit fs) l i = all_flipped_shape fs l
 
   all_made_shape : (acts : List Action) (l : Lattice) → All ByteMasks acts → Within l → SameShape l (all_made f g acts l)

@@ -4,10 +4,11 @@ use Rattle.std.proofs.lemmas.List.{length-map, map-append}
 use Rattle.std.specs.Prelude.{◌&&◌, ◌==◌, not}
 use Rattle.any_bench.specs.Answers.{said}
 use Rattle.any_bench.specs.declared.answer.Answer.TheVariants.{PassedOver, Given}
+use Rattle.lattice.proofs.Reversed.{reverse_laws}
 use Rattle.lattice.specs.Lattice.{Lattice, Within}
 use Rattle.lattice.specs.Maps.{Reversible}
 use Rattle.ledger.proofs.Mirrored.{mirror_action, mirrored, neg_clock, standing_mirrored, same_kind, takes_mirrored, after_mirrored, answer_mirrored}
-use Rattle.ledger.proofs.MirroredSound.{mirrored_sound, reversed_laws}
+use Rattle.ledger.proofs.MirroredSound.{mirrored_sound}
 use Rattle.ledger.proofs.Sound.{Sound}
 use Rattle.ledger.specs.Effects.{standing_for}
 use Rattle.ledger.specs.Ledgers.{Ledger, at_opening, clock_of, counts}
@@ -48,7 +49,7 @@ module _ (f g : Lattice → Lattice) (laws : Reversible f g) (l : Lattice) (insi
   pub mirror_held : event_made g f n (mirror_event e) (mirrored led) (standing_for f g led l) ≡ standing_for f g (event_booked l.width l.height n e led) l
   mirror_held =
       ap (event_made g f n (mirror_event e) (mirrored led)) (sym (standing_mirrored f g led l))
-      ∙ event_held g f (reversed_laws f g laws) l inside n (mirror_event e) (mirrored led) (mirrored_sound l.width l.height led s)
+      ∙ event_held g f (reverse_laws laws) l inside n (mirror_event e) (mirrored led) (mirrored_sound l.width l.height led s)
       ∙ ap (λ x. standing_for g f x l) (mirror_booked l.width l.height n e led)
       ∙ standing_mirrored f g (event_booked l.width l.height n e led) l
 
