@@ -1,13 +1,14 @@
 -- What is known of a call that is accepted. Assumes nothing.
-use Rattle.std.proofs.Common.{◌≡◌, ℕ, zero, suc, ◌*◌, ◌<◌, ◌≤◌, ℤ, Bool, true, false, cond, nat_lt, nat_le, Some, None, Option, refl, arith, unsigned_abs}
-use Rattle.std.proofs.lemmas.Bool.{eqb-true, eq-eqb}
+use Rattle.std.proofs.Common.{◌≡◌, ℕ, ◌*◌, ◌<◌, ◌≤◌, ℤ, Bool, true, false, cond, nat_lt, nat_le, Some, None, Option, refl, arith, unsigned_abs}
+use Rattle.std.proofs.lemmas.Bool.{eqb-true, eq-eqb, and_parts, lt-ltb, le-leb}
 use Rattle.std.proofs.lemmas.Bool.Decides.{nat_tests}
+use Rattle.std.specs.Option.{option_or}
 use Rattle.std.specs.Prelude.{◌==◌, ◌&&◌, not}
 use Rattle.actions.specs.Flips.{flip_refusal}
 use Rattle.faults.specs.declared.run.BenchRefusal.{BenchRefusal}
-use Rattle.faults.specs.declared.run.BenchRefusal.TheVariants.{Cells, JournalFull}
+use Rattle.faults.specs.declared.run.BenchRefusal.TheVariants.{Cells}
 use Rattle.ledger.specs.Ledgers.{Ledger}
-use Rattle.ledger.specs.Refusals.{is_step_count, if_room, step_refusal, or_else, if_none, own_refusal, takes_cells, refusal, if_accepted}
+use Rattle.ledger.specs.Refusals.{is_step_count, if_room, step_refusal, own_refusal, takes_cells, refusal, if_accepted}
 use Rattle.scripts.specs.declared.record.Record.{Record}
 
 -- by whether there is a refusal
@@ -23,28 +24,24 @@ passes false d e h = absurd cc
 pub room_left : (k : ℕ) → if_room k ≡ None → k < 256
 room_left k h = let t = (passes (nat_lt k 256) None _ h).0 in grind (arith, nat_tests)
 
-both : (a b : Bool) → (a && b) ≡ true → (a ≡ true) × (b ≡ true)
-both true b h = (refl, h)
-both false b h = absurd cc
-
 pub step_accepted : (z : ℤ) (k : ℕ) → step_refusal z k ≡ None → (0 < unsigned_abs z) × (unsigned_abs z ≤ 10000) × (k < 256)
 step_accepted z k h =
     let p = passes (is_step_count z) (if_room k) _ h in
-    let q = both (nat_lt 0 (unsigned_abs z)) (nat_le (unsigned_abs z) 10000) p.0 in
+    let q = and_parts (nat_lt 0 (unsigned_abs z)) (nat_le (unsigned_abs z) 10000) p.0 in
     let some = q.0 in
     let few = q.1 in
     (grind (arith, nat_tests), grind (arith, nat_tests), room_left k p.1)
 
-pub flip_accepted : (w h c r m k : ℕ) → or_else (flip_refusal w h c r m) (if_room k) ≡ None → (c < w) × (r < h) × (0 < m) × (m < 256) × (k < 256)
+pub flip_accepted : (w h c r m k : ℕ) → option_or (flip_refusal w h c r m) (if_room k) ≡ None → (c < w) × (r < h) × (0 < m) × (m < 256) × (k < 256)
 flip_accepted w h c r m k e = here (flip_refusal w h c r m) refl e
   where
-    here : (d : Option BenchRefusal) → flip_refusal w h c r m ≡ d → or_else d (if_room k) ≡ None → (c < w) × (r < h) × (0 < m) × (m < 256) × (k < 256)
+    here : (d : Option BenchRefusal) → flip_refusal w h c r m ≡ d → option_or d (if_room k) ≡ None → (c < w) × (r < h) × (0 < m) × (m < 256) × (k < 256)
     here (Some x) is no' = absurd cc
     here None is room' =
         let p = passes (nat_lt c w && nat_lt r h) _ _ is in
         let q = passes (nat_lt 0 m && nat_le m 255) None _ p.1 in
-        let s = both (nat_lt c w) (nat_lt r h) p.0 in
-        let t = both (nat_lt 0 m) (nat_le m 255) q.0 in
+        let s = and_parts (nat_lt c w) (nat_lt r h) p.0 in
+        let t = and_parts (nat_lt 0 m) (nat_le m 255) q.0 in
         let a = s.0 in
         let b = s.1 in
         let x = t.0 in
@@ -59,36 +56,17 @@ cells_accepted w h n c led takes e = here (n == w * h) refl (rw takes at e)
     here true is e = (eqb-true n (w * h) is, e)
     here false is e = absurd cc
 
-pub some_accepted : (k : ℕ) (e : BenchRefusal) → if_none k e ≡ None → 0 < k
-some_accepted k e h = here k h
-  where
-    here : (j : ℕ) → if_none j e ≡ None → 0 < j
-    here zero h = absurd cc
-    here (suc j) h = omega arith
-
 -- and the other way round
-test_passes : (k n : ℕ) → k < n → nat_lt k n ≡ true
-test_passes k n h = grind (arith, nat_tests)
-
-test_passes_le : (k n : ℕ) → k ≤ n → nat_le k n ≡ true
-test_passes_le k n h = grind (arith, nat_tests)
-
-test_fails : (k n : ℕ) → n ≤ k → nat_lt k n ≡ false
-test_fails k n h = grind (arith, nat_tests)
-
 pub room_refusal : (k : ℕ) → k < 256 → if_room k ≡ None
-room_refusal k h = rw (test_passes k 256 h) refl
-
-pub full_refusal : (k : ℕ) → 256 ≤ k → if_room k ≡ Some JournalFull
-full_refusal k h = rw (test_fails k 256 h) refl
+room_refusal k h = rw (lt-ltb k 256 h) refl
 
 pub step_taken : (z : ℤ) (k : ℕ) → 0 < unsigned_abs z → unsigned_abs z ≤ 10000 → step_refusal z k ≡ if_room k
-step_taken z k some few = rw (test_passes 0 (unsigned_abs z) some, test_passes_le (unsigned_abs z) 10000 few) refl
+step_taken z k some few = rw (lt-ltb 0 (unsigned_abs z) some, le-leb (unsigned_abs z) 10000 few) refl
 
-pub flip_taken : (w h c r m k : ℕ) → c < w → r < h → 0 < m → m < 256 → k < 256 → or_else (flip_refusal w h c r m) (if_room k) ≡ None
+pub flip_taken : (w h c r m k : ℕ) → c < w → r < h → 0 < m → m < 256 → k < 256 → option_or (flip_refusal w h c r m) (if_room k) ≡ None
 flip_taken w h c r m k c< r< some small room =
     let mask : m ≤ 255 = omega arith in
-    rw (test_passes c w c<, test_passes r h r<, test_passes 0 m some, test_passes_le m 255 mask, test_passes k 256 room) refl
+    rw (lt-ltb c w c<, lt-ltb r h r<, lt-ltb 0 m some, le-leb m 255 mask, lt-ltb k 256 room) refl
 
 -- a call that is handed the cells of the lattice is refused for its own causes alone
 pub whole_refusal : (w h : ℕ) (c : Record) (led : Ledger) → refusal w h (w * h) c led ≡ own_refusal w h c led

@@ -5,7 +5,6 @@
 --     is_step_count z           z can be the count of a step
 --     if_room k                 no refusal, where fewer than max_entries entries are used; k are
 --     step_refusal z k          why a step by z is refused where k entries are used
---     or_else e d               the refusal e, or else d
 --     if_none k e               the refusal e, if k is 0
 --     own_refusal w h c led     why the call c is refused, if it is not for the cells that it is handed
 --     takes_cells c             the call c is handed cells
@@ -14,6 +13,7 @@
 --     answer w h n c led        what the call c answers: how many actions stand then, or why it is refused
 --     after w h n c led         the ledger after the call c: a refused call leaves it as it was
 use Rattle.std.specs.Prelude.{ℕ, ◌*◌, ◌==◌, ◌&&◌, Bool, true, false, not, length, ℤ, Option, Some, None, Result, nat_lt, nat_le, unsigned_abs, if◌then◌else◌}
+use Rattle.std.specs.Option.{option_or}
 use Rattle.actions.specs.Answers.{unless}
 use Rattle.actions.specs.Flips.{flip_refusal}
 use Rattle.faults.specs.declared.run.BenchRefusal.{BenchRefusal}
@@ -40,10 +40,6 @@ if_room k = if nat_lt k max_entries then None else Some JournalFull
 abbrev pub step_refusal : ℤ → ℕ → Option BenchRefusal
 step_refusal z k = if is_step_count z then if_room k else Some StepCount
 
-abbrev pub or_else : Option BenchRefusal → Option BenchRefusal → Option BenchRefusal
-or_else None d = d
-or_else (Some e) d = Some e
-
 abbrev pub if_none : ℕ → BenchRefusal → Option BenchRefusal
 if_none k e = if k == 0 then Some e else None
 
@@ -52,7 +48,7 @@ own_refusal w h (Step z) led = step_refusal z (used led)
 own_refusal w h Undo led = if_none (length led.standing) NothingToUndo
 own_refusal w h Redo led = if_none (length led.undone) NothingToRedo
 own_refusal w h Open led = None
-own_refusal w h (Flip c r m) led = or_else (flip_refusal w h c r m) (if_room (used led))
+own_refusal w h (Flip c r m) led = option_or (flip_refusal w h c r m) (if_room (used led))
 own_refusal w h Clear led = None
 own_refusal w h Close led = None
 
