@@ -1,3 +1,5 @@
+pub mod Block
+pub mod Four
 pub mod Progress
 pub mod Rows
 pub mod Started

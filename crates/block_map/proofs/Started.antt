@@ -10,7 +10,8 @@ use Rattle.block_map.specs.Blocks.{offset, rewritten}
 use Rattle.block_map.specs.Progress.{Rewrote, IsCorner, only}
 use Rattle.block_map.specs.Writes.{block_written}
 use Rattle.block_map.specs.Axis.{Pair, pair}
-use Rattle.block_map.specs.Block.{bit_below, rewrote_block}
+use Rattle.block_map.specs.Block.{bit_below}
+use Rattle.block_map.proofs.Block.{rewrote_block}
 
 present_alone : (c b : ℕ) → b < 2 → with_present c b / 2 ≡ c / 2
 present_alone c b h = omega arith

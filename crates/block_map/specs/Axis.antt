@@ -1,5 +1,5 @@
 -- The blocks along one axis. Assumes nothing.
-use Rattle.std.specs.Prelude.{◌≡◌, ℕ, ◌<◌, ◌≤◌, ◌≢◌, ◌⊎◌, ◌==◌, refl}
+use Rattle.std.specs.Prelude.{◌≡◌, ℕ, ◌<◌, ◌≤◌, ◌⊎◌, ◌==◌, refl}
 use Rattle.std.proofs.Common.{sym, ◌∙◌, ap, inl, inr, arith}
 use Rattle.std.proofs.lemmas.Bool.Decides.{nat_tests}
 use Rattle.std.proofs.lemmas.Bool.{cases_eq, cond-true, cond-false, eq-eqb, ne_eqb}
@@ -64,6 +64,3 @@ pair n p side phase X X' f e = record {
     | inr o ↦ inr (sym (after_corner n p side phase x h o) ∙ ap (after n) c ∙ e, o)
   ];
 }
-
-pub pair_apart : (n p X X' : ℕ) → Pair n p X X' → X ≢ X'
-pair_apart n p X X' b e = let o = ap (offset p) e in let f = b.first.1 in let g = b.next_odd in omega arith

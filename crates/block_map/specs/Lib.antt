@@ -6,4 +6,3 @@ pub mod Laws
 pub mod Undone
 pub mod Axis
 pub mod Block
-pub mod Four

@@ -4,10 +4,14 @@ use Rattle.std.proofs.lemmas.Bool.Decides.{nat_tests}
 use Rattle.lattice.specs.Limits.{Side}
 use Rattle.lattice.specs.Torus.{after, before}
 use Rattle.lattice.proofs.Torus.{after_inside, before_inside, after-before}
-use Rattle.lift.specs.Moments.{xored}
-use Rattle.lift.specs.NeighboursLemmas.{around_columns}
+use Rattle.lift.specs.Moments.{presents, xored}
+use Rattle.lift.specs.Neighbours.{around}
 use Rattle.lift.specs.Progress.{column, Answered}
 use Rattle.lift.proofs.Progress.{presents_kept, answered_more}
+
+-- three columns make the number of the cell in the middle
+around_columns : (w h : ℕ) (cs : List ℕ) (x y west here east : ℕ) → west ≡ column w h cs (before w x) y → here ≡ column w h cs x y → east ≡ column w h cs (after w x) y → (west + 2 * here + 4 * east) % 512 ≡ around w h (presents w cs) x y
+around_columns w h cs x y west here east ew eh ee = omega arith
 
 -- the cells of row y left of column x are done; the columns to the west of x and at x are known. At the end of the row x is w, and the column at it is the first
 pub record RowUpTo (f : ℕ → ℕ) (w h y x : ℕ) (old cs : List ℕ) (west here : ℕ) : Type 0 where
