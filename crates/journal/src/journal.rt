@@ -2,7 +2,7 @@
 ghost use Rattle.std.specs.Prelude.{◌≡◌, ◌+◌, ◌<◌, ◌≤◌, length, take};
 ghost use Rattle.std.specs.List.{All};
 ghost use Rattle.ledger.specs.Ledgers.{clock_of};
-ghost use Rattle.journal.specs.Views.{IsEntry, places, all_places, read, read_all};
+ghost use Rattle.journal.specs.Views.{IsEntry, places, all_places, read};
 
 use crate::backwards::Backwards;
 use crate::entry::Entry;
@@ -10,7 +10,7 @@ use actions::action::ActionRef;
 use actions::flip::Flip;
 use faults::run::BenchRefusal;
 
-const MAX_ENTRIES: usize = 256;
+pub(crate) const MAX_ENTRIES: usize = 256;
 
 const MAX_STEP: u32 = 10_000;
 

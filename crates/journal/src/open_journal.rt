@@ -4,11 +4,9 @@ ghost use Rattle.journal.specs.Journals.{standing_of, undone_of};
 ghost use Rattle.ledger.specs.Ledgers.{entries};
 
 use crate::entry::Entry;
-use crate::journal::Journal;
+use crate::journal::{Journal, MAX_ENTRIES};
 use actions::flip::Flip;
 use faults::run::BenchRefusal;
-
-const MAX_ENTRIES: usize = 256;
 
 // The flips of the open session stand behind the places of what stands.
 #[derive(Drop)]

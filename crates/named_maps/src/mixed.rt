@@ -1,7 +1,7 @@
 // A stack of a block map, a lift and a cell map.
 ghost use Rattle.std.specs.Prelude.{◌≡◌};
 ghost use Rattle.layers.specs.Counts.{number_of};
-ghost use Rattle.named_maps.specs.Named.{bbm_forward, bbm_backward, life2_forward, life2_backward, exchange_forward, exchange_backward, mixed_forward, mixed_backward};
+ghost use Rattle.named_maps.specs.Named.{exchange_forward, exchange_backward, mixed_forward, mixed_backward};
 
 use crate::blocks::bbm;
 use crate::life2::life2;
