@@ -1,7 +1,7 @@
 -- Of lines: those of a written board are read as it, and a board that lines are read as is written so. Assumes nothing.
 use Rattle.std.proofs.Common.{◌≡◌, ℕ, suc, zero, ◌+◌, ◌*◌, ◌≤◌, List, [], ◌∷◌, ◌++◌, length, take, drop, map, flat_map, Ok, Result, arith, refl, sym, ◌∙◌, ap, subst, codes, None}
 use Rattle.std.proofs.Math.Nat.{suc-mul}
-use Rattle.std.proofs.lemmas.List.{append_assoc, take_at, drop_at, length-append, length-take-le, length-drop, take-append-drop}
+use Rattle.std.proofs.lemmas.List.{append_assoc, take_at, drop_at, length-append, length-take-le, length-drop, take-append-drop, nil_from_length}
 use Rattle.std.specs.Fmt.{decimal}
 use Rattle.std.specs.List.{AllByRecursion}
 use Rattle.faults.proofs.Joined.{went_on}
@@ -114,12 +114,8 @@ bytes_drop zero cs bytes = bytes
 bytes_drop (suc n) [] bytes = tt
 bytes_drop (suc n) (c ∷ cs) bytes = bytes_drop n cs bytes.1
 
-no_cells : (cs : List ℕ) → length cs ≡ 0 → cs ≡ []
-no_cells [] e = refl
-no_cells (c ∷ cs) e = absurd (omega arith)
-
 pub rows_taken : (w h n : ℕ) (cs : List ℕ) (more : List (List ℕ)) → length cs ≡ h * w → AreBytes cs → rows_from w h n (map row_content (rows w h cs) ++ more) ≡ Ok cs
-rows_taken w zero n cs more count bytes = ap Ok (sym (no_cells cs (omega (arith, count))))
+rows_taken w zero n cs more count bytes = ap Ok (sym (nil_from_length cs (omega (arith, count))))
 rows_taken w (suc h) n cs more count bytes =
     let row : List ℕ = take w cs in
     let rest : List ℕ = drop w cs in

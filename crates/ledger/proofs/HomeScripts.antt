@@ -1,5 +1,5 @@
 -- The records that lead home are a script. Assumes nothing.
-use Rattle.std.proofs.Common.{ℕ, ◌*◌, ◌≤◌, List, [], ◌∷◌, ◌++◌, length, map, flat_map, refl, sym, ap, subst, arith}
+use Rattle.std.proofs.Common.{ℕ, ◌*◌, ◌≤◌, List, [], ◌∷◌, ◌++◌, length, map, flat_map, refl, ap, arith}
 use Rattle.std.proofs.lemmas.Grind.{flat_map-append}
 use Rattle.std.proofs.lemmas.List.{length-append}
 use Rattle.std.proofs.lemmas.List.Elements.{All-head, All-tail}
@@ -9,20 +9,15 @@ use Rattle.actions.specs.Actions.{Action, Step as StepAction, Edit as EditAction
 use Rattle.actions.specs.declared.flip.Flip.{Flip as CellFlip}
 use Rattle.ledger.proofs.HomeLaws.{home_on, home_entries}
 use Rattle.ledger.proofs.Sound.{FlipOn, ActionOn}
+use Rattle.ledger.proofs.WrittenLengths.{step_length, flip_length}
 use Rattle.ledger.specs.Homes.{flip_record, making, home_records, home_script}
 use Rattle.ledger.specs.Ledgers.{size, entries}
-use Rattle.scripts.proofs.WrittenLengths.{step_length, flip_length}
+use Rattle.scripts.proofs.Appended.{leads_append, writable_append}
 use Rattle.scripts.specs.Laws.{IsScript}
-use Rattle.scripts.specs.Records.{kind_of, written, script_of, Writable}
-use Rattle.scripts.specs.States.{after, Leads}
-use Rattle.scripts.specs.declared.record.Record.{Record}
+use Rattle.scripts.specs.Records.{written, script_of, Writable}
+use Rattle.scripts.specs.States.{Leads}
 use Rattle.scripts.specs.declared.record.Record.TheVariants.{Step, Open, Close}
-use Rattle.scripts.specs.declared.state.State.{State}
 use Rattle.scripts.specs.declared.state.State.TheVariants.{Rest, Session}
-
-leads_append : (s t u : State) (rs qs : List Record) → Leads s rs t → Leads t qs u → Leads s (rs ++ qs) u
-leads_append s t u [] qs here there = subst (λ x. Leads x qs u) (sym here) there
-leads_append s t u (r ∷ rs) qs here there = (here.0, leads_append (after s (kind_of r)) t u rs qs here.1 there)
 
 flips_lead : (fs : List CellFlip) → Leads Session (map flip_record fs) Session
 flips_lead [] = refl
@@ -35,10 +30,6 @@ making_leads (EditAction fs) = (refl, leads_append Session Session Rest (map fli
 all_lead : (acts : List Action) → Leads Rest (flat_map making acts) Rest
 all_lead [] = refl
 all_lead (a ∷ acts) = leads_append Rest Rest Rest (making a) (flat_map making acts) (making_leads a) (all_lead acts)
-
-writable_append : (rs qs : List Record) → AllByRecursion Writable rs → AllByRecursion Writable qs → AllByRecursion Writable (rs ++ qs)
-writable_append [] qs here there = there
-writable_append (r ∷ rs) qs here there = (here.0, writable_append rs qs here.1 there)
 
 -- the sides are at most 256
 module _ (w h : ℕ) (narrow : w ≤ 256) (low : h ≤ 256) where

@@ -8,3 +8,4 @@ pub mod Mirrored
 pub mod MirroredSound
 pub mod Shapes
 pub mod Sound
+pub mod WrittenLengths

@@ -31,7 +31,7 @@ fn wide(byte: u8) -> u32
 }
 
 // The record of a flip. Each of its numbers is a byte.
-#[tactic(auto, using(scripts::proofs::WrittenLengths::flip_length))]
+#[tactic(auto, using(ledger::proofs::WrittenLengths::flip_length))]
 fn record_of(flip: Flip) -> Record
     ensures is { result ≡ flip_record flip }
     ensures short { length (written result) ≤ 17 }
@@ -83,7 +83,7 @@ fn opposite(count: i32) -> i32
 }
 
 // The same of an action, as it is taken back.
-#[tactic(auto, using(scripts::proofs::WrittenLengths::step_length))]
+#[tactic(auto, using(ledger::proofs::WrittenLengths::step_length))]
 pub(crate) fn put_reversed(action: ActionRef<'_>, script: &mut [u8], at: usize) -> usize
     requires known { IsKept (action_of action) }
     requires room { at + 28 * size (action_of action) ≤ length script.old }

@@ -1,6 +1,6 @@
 -- A run, by the records that are left. Assumes nothing.
 --     LeftToRun f g r s q t k n     k of the n records of r were made, and what was held as s is t now; those that are left in q come to what all of r come to
-use Rattle.std.proofs.Common.{◌≡◌, ℕ, ◌+◌, List, ◌∷◌, Some, Ok, Err, Result, length, refl, sym, ap, ap₂, ◌∙◌, arith}
+use Rattle.std.proofs.Common.{◌≡◌, ℕ, ◌+◌, List, ◌∷◌, Some, Ok, Result, length, refl, sym, ap, ap₂, ◌∙◌, arith}
 use Rattle.any_bench.proofs.Refused.{refused_leaves}
 use Rattle.any_bench.specs.Scenes.{Scene, told_at, after_call}
 use Rattle.any_bench.specs.declared.answer.Answer.{Answer}
@@ -12,7 +12,7 @@ use Rattle.faults.specs.declared.run.RunFault.TheVariants.{Bench}
 use Rattle.lattice.specs.Lattice.{Lattice}
 use Rattle.ledger.specs.Ledgers.{Ledger}
 use Rattle.runs.specs.Steps.{fault_in, unless_refused, ran, answer_after, ran_answer}
-use Rattle.scripts.specs.Judgements.{in_front}
+use Rattle.scripts.proofs.ScriptLines.{in_front_ok}
 use Rattle.scripts.specs.Reading.{left_of, reader_of, LeftBehind, MovedBy}
 use Rattle.scripts.specs.declared.record.Record.{Record}
 use Rattle.scripts.specs.declared.records.Records.{Records}
@@ -48,10 +48,6 @@ taken_by PassedOver n none e is = absurd cc
 taken_by Given n none e is = absurd cc
 taken_by (Standing k) n none e is = absurd cc
 
-front_left : (a : Result (List Record) RecordFault) (x : Record) (rs : List Record) → Ok rs ≡ in_front x a → (more : List Record) × (a ≡ Ok more) × (rs ≡ x ∷ more)
-front_left (Ok more) x rs h = (more, refl, cc)
-front_left (Err e) x rs h = absurd cc
-
 not_refused : {A : Type 0} (a : Answer) (x y : A) → ((e : BenchRefusal) → a ≡ Refused e → ⊥) → unless_refused a x y ≡ x
 not_refused PassedOver x y h = refl
 not_refused Given x y h = refl
@@ -66,7 +62,7 @@ not_refused_answer (Refused e) n x h = absurd (h e refl)
 
 module _ (f g : Lattice → Lattice) (r : Records) (all : List Record) (s : Scene) (q : Records) (t : Scene) (k n : ℕ) (now : Left f g r all s q t k n) (p : Records) (x : Record) (given : LeftBehind q (Ok (Some x)) p) (moved : MovedBy q (Ok (Some x)) p) where
   rest : (more : List Record) × (left_of p ≡ Ok more) × (now.records ≡ x ∷ more)
-  rest = front_left (left_of p) x now.records (sym now.left ∙ given)
+  rest = in_front_ok x (left_of p) now.records (sym given ∙ now.left)
 
   -- the next record is made
   pub one_made : ((e : BenchRefusal) → told_at x t ≡ Refused e → ⊥) → (u : Scene) → u ≡ after_call f g x t → Left f g r all s p u (k + 1) n

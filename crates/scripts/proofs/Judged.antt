@@ -2,6 +2,7 @@
 -- cause. Assumes nothing.
 use Rattle.std.proofs.Common.{◌≡◌, ◌≢◌, ℕ, ◌+◌, ◌-◌, ◌<◌, ◌≤◌, ℤ, List, [], ◌∷◌, length, true, false, Bool, cond, Some, None, Option, Ok, Err, Result, arith, refl, ◌∙◌, ap, sym, eqb, subst, inl, inr, slice_index_or}
 use Rattle.std.proofs.lemmas.Bool.{cases_lt, eqb-true, eqb-false}
+use Rattle.std.proofs.lemmas.List.{nil_from_length}
 use Rattle.std.specs.Fmt.{decimal, signed_decimal}
 use Rattle.faults.proofs.Joined.{went_on, passed, was_some}
 use Rattle.faults.specs.Results.{◌>>=◌}
@@ -38,10 +39,6 @@ pub record IsRead (k : Word) (args : List (List ℕ)) (r : Record) : Type 0 wher
   pub arguments : args ≡ arguments_of r
   pub writable : Writable r
 
-no_arguments : (args : List (List ℕ)) → length args ≡ 0 → args ≡ []
-no_arguments [] e = refl
-no_arguments (a ∷ args) e = absurd (omega arith)
-
 step_read : (n : ℕ) (args : List (List ℕ)) (r : Record) → length args ≡ 1 → read_as W.Step n args ≡ Ok r → IsRead W.Step args r
 step_read n [] r len e = absurd (omega arith)
 step_read n (a ∷ b ∷ args) r len e = absurd (omega arith)
@@ -71,7 +68,7 @@ answered : (a : Result Record RecordFault) (x y : Record) → a ≡ Ok x → a �
 answered a x y e f = cc
 
 plain_read : (k : Word) (x : Record) (args : List (List ℕ)) (r : Record) → kind_of x ≡ k → arguments_of x ≡ [] → Writable x → length args ≡ 0 → x ≡ r → IsRead k args r
-plain_read k x args r kind none w len is = subst (IsRead k args) is (record { kind = kind; arguments = no_arguments args len ∙ sym none; writable = w })
+plain_read k x args r kind none w len is = subst (IsRead k args) is (record { kind = kind; arguments = nil_from_length args len ∙ sym none; writable = w })
 
 word_read : (n : ℕ) (k : Word) (args : List (List ℕ)) (r : Record) → length args ≡ arity k → read_as k n args ≡ Ok r → IsRead k args r
 word_read n W.Step args r len e = step_read n args r len e

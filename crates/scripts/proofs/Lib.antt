@@ -1,7 +1,7 @@
+pub mod Appended
 pub mod Judged
 pub mod Lefts
 pub mod ScriptFaults
 pub mod ScriptLaws
 pub mod ScriptLines
 pub mod Words
-pub mod WrittenLengths

@@ -71,7 +71,7 @@ accepted_end : (s : State) (n : ℕ) (rs : List Record) → end_of_text s n ≡ 
 accepted_end Rest n rs e = let none : [] ≡ rs = cc in subst (Accepted Rest []) none (record { leads = refl; writable = tt; text = refl })
 accepted_end Session n rs e = absurd cc
 
-in_front_ok : (r : Record) (a : Result (List Record) RecordFault) (rs : List Record) → in_front r a ≡ Ok rs → (more : List Record) × (a ≡ Ok more) × (rs ≡ r ∷ more)
+pub in_front_ok : (r : Record) (a : Result (List Record) RecordFault) (rs : List Record) → in_front r a ≡ Ok rs → (more : List Record) × (a ≡ Ok more) × (rs ≡ r ∷ more)
 in_front_ok r (Ok more) rs e = (more, refl, cc)
 in_front_ok r (Err d) rs e = absurd cc
 
