@@ -1,6 +1,7 @@
 // Makes a job, and shows that its reverse script leads home and that its mirror holds the same.
 #![tactic(auto)]
 
+mod alike;
 mod shown;
 mod trial;
 

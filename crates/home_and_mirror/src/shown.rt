@@ -1,4 +1,5 @@
 // What is printed of the way home and of the mirror.
+use crate::alike::{HomeAlike, MirrorAlike};
 use anyhow::{Context, bail};
 use boards::text::board_text;
 use lattice::start::Start;
@@ -10,16 +11,6 @@ fn show_board(rt: &HostRuntime, start: &Start, cells: &[u8]) -> anyhow::Result<(
     let text = board_text(start, cells, rt.alloc())?.context("the cells are no whole lattice")?;
     io::writer(rt).write_all(&text)?;
     Ok(())
-}
-
-fn show_whether(rt: &HostRuntime, what: &str, holds: bool) -> anyhow::Result<()> {
-    let word = if holds { "yes" } else { "no" };
-    println!(rt; "{what}\t{word}")?;
-    Ok(())
-}
-
-fn are_opposite(clock: i32, other: i32) -> bool {
-    clock.checked_neg() == Some(other)
 }
 
 // The third bench, which has run the reverse script.
@@ -36,17 +27,16 @@ pub(crate) fn show_home(
     let (standing, undone, clock, _) = journey.counts;
     println!(rt; "home\t{made}\t{clock}\t{standing}\t{undone}")?;
     show_board(rt, &journey.start, home)?;
-    let (start, first) = opening;
-    show_whether(
-        rt,
-        "the opening board",
-        journey.start == *start && home == first,
-    )?;
-    show_whether(
-        rt,
-        "the clock negated",
-        are_opposite(outcome.counts.2, clock),
-    )
+    let alike = HomeAlike::of(
+        &journey.start,
+        home,
+        opening.0,
+        opening.1,
+        clock,
+        outcome.counts.2,
+    );
+    println!(rt; "{alike}")?;
+    Ok(())
 }
 
 // The second bench, over the reversed map.
@@ -56,12 +46,9 @@ pub(crate) fn show_mirror(
     cells: &[u8],
     mirror: &[u8],
 ) -> anyhow::Result<()> {
-    let (standing, undone, clock, phase) = outcome.counts;
-    let (mirror_standing, mirror_undone, mirror_clock, mirror_phase) = outcome.mirror_counts;
-    println!(rt; "mirror\t{mirror_clock}\t{mirror_standing}\t{mirror_undone}")?;
-    show_whether(rt, "the same cells", cells == mirror)?;
-    show_whether(rt, "the same phase", phase == mirror_phase)?;
-    let same_counts = standing == mirror_standing && undone == mirror_undone;
-    show_whether(rt, "the same counts", same_counts)?;
-    show_whether(rt, "the clock negated", are_opposite(clock, mirror_clock))
+    let (standing, undone, clock, _) = outcome.mirror_counts;
+    println!(rt; "mirror\t{clock}\t{standing}\t{undone}")?;
+    let alike = MirrorAlike::of(cells, mirror, outcome.counts, outcome.mirror_counts);
+    println!(rt; "{alike}")?;
+    Ok(())
 }
