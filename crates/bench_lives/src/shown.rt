@@ -2,7 +2,7 @@
 use any_bench::answer::Answer;
 use anyhow::Context;
 use bench::bench::Counts;
-use boards::text::board_text;
+use boards::board_text::board_text;
 use lattice::start::Start;
 use lives::event::{Event, Lent, Seen, Told};
 use scripts::record::Record;

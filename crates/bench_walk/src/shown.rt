@@ -1,7 +1,7 @@
 // What is printed of a call, and of a lattice.
 use anyhow::Context;
 use bench::bench::Counts;
-use boards::text::board_text;
+use boards::board_text::board_text;
 use faults::run::BenchRefusal;
 use lattice::start::Start;
 use std::io;

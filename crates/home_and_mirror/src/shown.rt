@@ -1,7 +1,7 @@
 // What is printed of the way home and of the mirror.
 use crate::alike::{HomeAlike, MirrorAlike};
 use anyhow::{Context, bail};
-use boards::text::board_text;
+use boards::board_text::board_text;
 use lattice::start::Start;
 use lives::outcome::{Outcome, WayBack};
 use std::io;

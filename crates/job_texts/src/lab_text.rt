@@ -7,7 +7,7 @@ ghost use Rattle.text.specs.Lines.{ended};
 ghost use Rattle.lattice.specs.Lattice.{Whole};
 ghost use Rattle.lattice.specs.Starts.{held};
 
-use boards::text::board_text;
+use boards::board_text::board_text;
 use faults::report::Report;
 use faults::run::RunFault;
 use jobs::done::Done;

@@ -1,7 +1,7 @@
 // What is printed of one text.
 use anyhow::Context;
+use boards::board_text::board_text;
 use boards::read::read_board;
-use boards::text::board_text;
 use faults::report::Report;
 use lattice::start::max_cells;
 use scripts::check::check;

@@ -1,8 +1,8 @@
 // What is printed of one text.
 use crate::case::{Case, Kind};
 use anyhow::Context;
+use boards::board_text::board_text;
 use boards::read::read_board;
-use boards::text::board_text;
 use faults::record::RecordFault;
 use faults::report::Report;
 use lattice::start::Start;
