@@ -23,7 +23,7 @@ fn fault_line(fault: RunFault, heap: Global) -> Result<Vec<u8>, AllocError>
 }
 
 // What came of a job whose records were all made, and the board that is held.
-fn done_text(done: &Done, cells: &[u8], heap: Global) -> Result<Vec<u8>, AllocError>
+fn made_text(done: &Done, cells: &[u8], heap: Global) -> Result<Vec<u8>, AllocError>
     requires { Whole (held done.now.start cells.now) }
     ensures { IfOk result (λ v. v.items ≡ ended (done_text done.now.made done.now.counts) ++ board_text (held done.now.start cells.now)) }
 {
@@ -39,7 +39,7 @@ fn text_in(job: &[u8], cells: &mut [u8], heap: Global) -> Result<Vec<u8>, AllocE
     ensures { IfOk result (λ v. v.items ≡ printed_for (length cells.old) job.now) }
 {
     match run_job(job, cells) {
-        Ok(done) => done_text(&done, &cells[..done.start.cell_count()], heap),
+        Ok(done) => made_text(&done, &cells[..done.start.cell_count()], heap),
         Err(fault) => fault_line(fault, heap),
     }
 }

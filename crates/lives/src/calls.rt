@@ -23,7 +23,7 @@ fn needs_cells(call: Record) -> bool
     !matches!(call, Record::Open | Record::Close)
 }
 
-// A call that is handed a memory of another length: it is refused, and changes nothing.
+// A call that is handed a memory of another length: it is refused, or passed over where the state does not permit it, and changes nothing.
 fn call_elsewhere<'m, M: Map>(
     bench: AnyBench<'m, M>,
     call: Record,
