@@ -40,7 +40,7 @@ fn run_opened(text: &[u8], cells: &mut [u8]) -> Result<Done, RunFault>
 }
 
 /// Runs a job on a new bench, in the first bytes of `cells`, which may be longer than the board. Fails with the first fault of the text
-/// (`RunFault::Record`), before anything is written; or with the first refusal of a record (`RunFault::Bench`), after the records before it were made.
+/// (`RunFault::Record`), before anything is written; or with the first refusal of a record (`RunFault::Bench`), which ends the run as in `runs::run`.
 #[tactic(auto, using(crate::proofs::JobsStand::job_stands))]
 pub fn run_job(text: &[u8], cells: &mut [u8]) -> Result<Done, RunFault>
     ensures answer { JobRun (job (length cells.old) text.now) cells.old cells.new result }
