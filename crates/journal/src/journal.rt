@@ -22,8 +22,8 @@ const NO_FLIP: Flip = Flip {
 
 /// The actions that stand and those that were undone. It has a fixed size and never allocates.
 #[derive(Drop)]
-// the actions that stand come first, then those that were undone
 pub struct Journal {
+    // the actions that stand come first, then those that were undone
     pub(crate) entries: [Entry; MAX_ENTRIES],
     pub(crate) flips: [Flip; MAX_ENTRIES],
     pub(crate) standing: usize,

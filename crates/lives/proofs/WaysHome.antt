@@ -1,4 +1,4 @@
--- The way back: the reverse script, run on a bench that is opened on what is held, returns to the opening lattice. Assumes nothing.
+-- A bench that takes over what is held and runs the reverse script returns to the opening lattice. Assumes nothing.
 use Rattle.std.proofs.Common.{◌≡◌, ℕ, ◌*◌, ◌≤◌, eqb, neg_ℤ, List, [], length, Ok, Err, sym, ap, ap₂, ◌∙◌, subst, arith}
 use Rattle.std.proofs.lemmas.Bool.{cond-true, eq-eqb}
 use Rattle.std.specs.List.{All}

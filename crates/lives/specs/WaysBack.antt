@@ -20,7 +20,7 @@ use Rattle.scripts.specs.declared.state.State.TheVariants.{Rest, Session}
 abbrev pub begun : (Lattice → Lattice) → (Lattice → Lattice) → Lattice → Ledger → Scene
 begun f g l led = record { ledger = at_opening; lattice = standing_for f g led l }
 
--- the script undoes the actions that stand. The third bench makes all of its records, and returns to the opening lattice with the opposite clock
+-- the script undoes the actions that stand. The third bench makes all of its records, and is back at the opening lattice; its clock is the opposite
 pub record Home (f g : Lattice → Lattice) (l : Lattice) (led : Ledger) (old new cells : List ℕ) (j : Journey) : Type 0 where
   pub rests : led.state ≡ Rest
   pub len : j.script_len ≡ length (home_script led.standing)

@@ -70,7 +70,7 @@ module _ (f g : Lattice → Lattice) (laws : Reversible f g) (l : Lattice) (insi
 pub stands_opened : (f g : Lattice → Lattice) (l : Lattice) → Stands f g l (record { ledger = at_opening; lattice = l })
 stands_opened f g l = record { sound = sound_at_opening l.width l.height; held = refl }
 
--- a session that is cleared and closed leaves the bench at rest
+-- clearing and then closing a session leaves the bench at rest
 cleared : (f g : Lattice → Lattice) (s : Scene) → (after_call f g Call.Clear s).ledger.state ≡ s.ledger.state
 cleared f g s =
     let l = s.lattice in
