@@ -7,7 +7,7 @@ use crate::flip::{Flip, make_flips, take_back_flips};
 use lattice::map::Map;
 use lattice::start::Start;
 
-/// Moves the lattice as often as `count` says: forward if it is positive, back if it is negative.
+/// Moves the lattice by `count` steps: forward if it is positive, back if it is negative.
 pub fn move_by<M: Map>(map: &M, count: i32, start: &mut Start, cells: &mut [u8])
     ensures { held start.new cells.new ≡ moved (M.forward map.now) (M.backward map.now) count (held start.old cells.old) }
 {
@@ -18,7 +18,7 @@ pub fn move_by<M: Map>(map: &M, count: i32, start: &mut Start, cells: &mut [u8])
     }
 }
 
-/// Moves the lattice as far the other way; unlike a call of `move_by` with the count negated, it is defined for `i32::MIN`.
+/// Moves the lattice by `count` steps the other way. Unlike `move_by` with the count negated, it is also defined for `i32::MIN`.
 pub fn move_back_by<M: Map>(map: &M, count: i32, start: &mut Start, cells: &mut [u8])
     ensures { held start.new cells.new ≡ moved (M.forward map.now) (M.backward map.now) (neg_ℤ count) (held start.old cells.old) }
 {

@@ -35,7 +35,7 @@ impl Flip {
         })
     }
 
-    /// Flips one cell. `cells` may be too short to have it; then nothing is done.
+    /// Flips one cell, or nothing if `cells` is too short to have it.
     pub fn make(self, start: &Start, cells: &mut [u8])
         ensures { held start.now cells.new ≡ flipped self (held start.now cells.old) }
     {

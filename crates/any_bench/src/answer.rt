@@ -1,7 +1,7 @@
 //! The answer to a call that is passed as a value.
 use faults::run::BenchRefusal;
 
-/// What a call comes to.
+/// The outcome of a call.
 #[derive(Clone, Copy, PartialEq, Eq, Debug)]
 pub enum Answer {
     /// The call was skipped: the state does not permit it, or it is an event that is no call of the life.

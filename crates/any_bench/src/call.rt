@@ -12,7 +12,7 @@ use lattice::map::Map;
 use lattice::start::Start;
 use scripts::record::Record;
 
-/// A bench whose state is known only when the program runs, as where calls are read from a text.
+/// A bench whose state is known only when the program runs, as it is when the calls come from a text.
 #[derive(Drop)]
 pub enum AnyBench<'m, M> {
     /// At rest: steps, undoes and redoes.

@@ -16,7 +16,7 @@ use lattice::start::Start;
 use reverse_script::refusal::ScriptRefusal;
 use reverse_script::write::write_reverse_script;
 
-/// The result of a count call: actions that stand, actions that were undone, the clock, the phase.
+/// The result of a count call: actions that stand, actions that were undone, the clock in steps, the phase (0 or 1).
 pub type Counts = (usize, usize, i32, u8);
 
 /// A bench at rest. It borrows its map and has no cells of its own: each call that needs cells borrows them from the caller, one byte for each cell.
@@ -32,7 +32,7 @@ impl<'m, M: Map> Bench<'m, M> {
     ghost use Rattle.ledger.specs.Ledgers.{at_opening, counts, booked};
     ghost use Rattle.ledger.specs.Refusals.{max_clock};
 
-    /// Opens a bench. It sees no cells yet: those that the caller has at this time complete `start` to the opening lattice.
+    /// Opens a bench. It reads no cells; the opening lattice consists of `start` and of the cells that the caller has at this time.
     pub fn new(map: &'m M, start: Start) -> Bench<'m, M>
         ensures map { map_of result ≡ map.now }
         ensures start { start_of result ≡ start }
@@ -100,7 +100,7 @@ impl<'m, M: Map> Bench<'m, M> {
         Ok(self.journal.standing())
     }
 
-    /// Makes the action again that was undone last. Returns how many stand then. Refused with `Cells`, then with `NothingToRedo`.
+    /// Makes again the action that was undone last. Returns how many stand then. Refused with `Cells`, then with `NothingToRedo`.
     pub fn redo(&mut self, cells: &mut [u8]) -> Result<usize, BenchRefusal>
         ensures answer { result ≡ answered (handed self.old cells.old) Redo (ledger_of self.old) }
         ensures ledger { ledger_of self.new ≡ booked_by (handed self.old cells.old) Redo (ledger_of self.old) }

@@ -39,7 +39,7 @@ pub(crate) fn show_home(
     Ok(())
 }
 
-// The mirror, which is over the reversed map.
+// The mirror, a bench over the reverse of the map.
 pub(crate) fn show_mirror(
     rt: &HostRuntime,
     outcome: &Outcome,

@@ -1,4 +1,4 @@
-//! Runs jobs from standard input, one to a line in hexadecimal digits, and prints what comes of each, to be compared with an independent model.
+//! Runs jobs from standard input, one to a line in hexadecimal digits, and prints their outcomes, to be compared with an independent model.
 #![tactic(auto)]
 
 mod case;

@@ -1,4 +1,4 @@
--- Running the records of a job gives what comes of the job. Assumes nothing.
+-- Running the records of a job gives the outcome of the job. Assumes nothing.
 use Rattle.std.proofs.Common.{◌≡◌, ℕ, ◌*◌, List, length, drop, Ok, Err, sym, ◌∙◌, ap, ap₂}
 use Rattle.std.proofs.lemmas.Bool.{eq-eqb}
 use Rattle.any_bench.specs.Scenes.{Scene}

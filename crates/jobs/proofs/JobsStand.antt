@@ -1,4 +1,4 @@
--- After a job was run, its board is held, changed by the actions that stand. Assumes nothing.
+-- After a job is run, its board is held, changed by the actions that stand. Assumes nothing.
 use Rattle.std.proofs.Common.{◌≡◌, ℕ, ◌≤◌, List, length, Ok, Err, Result, IfOk, refl, sym, subst}
 use Rattle.any_bench.specs.Scenes.{Scene, after_calls}
 use Rattle.faults.specs.declared.record.RecordFault.{RecordFault}

@@ -1,4 +1,4 @@
--- What comes of a job.
+-- The outcome of a job.
 --     first_scene j     what is held before the first record: an empty ledger, and the lattice of the job j
 --     answer j          the result of running its records: how many were made, or the fault of the first that is refused
 --     outcome j         what is held in the end: the records were made, or those before the first refusal, and a session that it cut short has left no flip

@@ -1,4 +1,4 @@
-//! What comes of a job whose records were all made.
+//! The outcome of a job whose records were all made.
 ghost use Rattle.std.specs.Prelude.{Some};
 ghost use Rattle.jobs.specs.Texts.{done_text};
 
@@ -6,7 +6,7 @@ use bench::bench::Counts;
 use lattice::start::Start;
 use std::fmt;
 
-/// What comes of a job whose records were all made. It is displayed as the first line that `lab` prints, without the newline.
+/// The outcome of a job whose records were all made. It is displayed as the first line that `lab` prints, without the newline.
 #[derive(Clone, Copy, PartialEq, Eq, Debug)]
 pub struct Done {
     /// The start record of the lattice that is held in the end.

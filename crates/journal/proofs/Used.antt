@@ -1,4 +1,4 @@
--- The places in use are the entries of what stands. Assumes nothing.
+-- There are as many places in use as entries of what stands. Assumes nothing.
 use Rattle.std.proofs.Common.{◌≡◌, ◌-◌, ◌+◌, ◌<◌, ◌≤◌, [], length, sym, ap, ◌∙◌, arith}
 use Rattle.std.proofs.lemmas.List.{length-drop}
 use Rattle.journal.proofs.Booking.{standing_places, has_place, entries_standing, fewer_than_places}

@@ -6,7 +6,7 @@ use crate::entry::Entry;
 use crate::journal::Journal;
 use actions::action::ActionRef;
 
-/// Goes through the actions of a journal that stand, the last one first.
+/// Goes through the standing actions of a journal, the last one first.
 #[derive(Clone, Copy)]
 pub struct Backwards<'j> {
     pub(crate) journal: &'j Journal,
@@ -35,7 +35,7 @@ impl<'j> Backwards<'j> {
         }
     }
 
-    /// Returns the last of the actions that are left, or `None` when none is left.
+    /// Returns the last of the actions that are left, or `None` if none is left.
     pub fn next(&mut self) -> Option<ActionRef<'j>>
         ensures given { map action_of (option_to_list result) ≡ drop (length (left_of self.old) - 1) (left_of self.old) }
         ensures left { left_of self.new ≡ take (length (left_of self.old) - 1) (left_of self.old) }

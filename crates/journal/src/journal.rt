@@ -83,14 +83,14 @@ impl Journal {
         clock
     }
 
-    /// Returns the last action that stands, or `None` where none stands.
+    /// Returns the last action that stands, or `None` if none stands.
     pub fn last(&self) -> Option<ActionRef<'_>>
         ensures { map action_of (option_to_list result) ≡ drop (length (standing_of self.now) - 1) (standing_of self.now) }
     {
         Backwards::new(self).next()
     }
 
-    /// Returns the action that a redo makes, or `None` where none was undone.
+    /// Returns the action that a redo makes, or `None` if none was undone.
     pub fn next(&self) -> Option<ActionRef<'_>>
         ensures { map action_of (option_to_list result) ≡ take 1 (undone_of self.now) }
     {
@@ -105,7 +105,7 @@ impl Journal {
         })
     }
 
-    /// Counts the last action that stands among the undone ones. Where none stands, it does nothing.
+    /// Moves the last action that stands to the undone ones. Does nothing if none stands.
     pub fn step_back(&mut self)
         ensures standing { standing_of self.new ≡ take (length (standing_of self.old) - 1) (standing_of self.old) }
         ensures undone { undone_of self.new ≡ drop (length (standing_of self.old) - 1) (standing_of self.old) ++ undone_of self.old }
@@ -118,7 +118,7 @@ impl Journal {
         self.undone += 1;
     }
 
-    /// Counts the action that a redo makes among those that stand again. Where none was undone, it does nothing.
+    /// Moves the action that a redo makes back to those that stand. Does nothing if none was undone.
     pub fn step_on(&mut self)
         ensures standing { standing_of self.new ≡ standing_of self.old ++ take 1 (undone_of self.old) }
         ensures undone { undone_of self.new ≡ drop 1 (undone_of self.old) }

@@ -58,7 +58,7 @@ impl OpenJournal {
         self.journal.places(self.count)
     }
 
-    /// Adds a flip to the session. Refused with `JournalFull` alone.
+    /// Adds a flip to the session. Refused only with `JournalFull`.
     pub fn book_flip(&mut self, flip: Flip) -> Result<(), BenchRefusal>
         ensures answer { result ≡ unless (if_room (entries (open_standing self.old) + length (session_of self.old))) tt }
         ensures standing { open_standing self.new ≡ open_standing self.old }

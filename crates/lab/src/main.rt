@@ -1,4 +1,4 @@
-//! Runs the job on standard input, and prints what comes of it.
+//! Runs the job on standard input, and prints its outcome.
 #![tactic(auto)]
 
 ghost use Rattle.std.specs.Prelude.{IfOk, IfSome};

@@ -1,7 +1,7 @@
 -- What holds of every ledger of a life, on a lattice with w columns and h rows. Assumes nothing.
 --     FlipOn w h f       the flip f would be accepted
 --     ActionOn w h a     so would the action a: the count of its step, or the flips of its edit, which has some
---     Sound w h led      all its flips and actions are such, there is room for their entries, and it has no undone actions beside pending flips
+--     Sound w h led      all its flips and actions are such, there is room for their entries, and it does not have both undone actions and pending flips
 use Rattle.std.proofs.Common.{◌≡◌, ℕ, ◌+◌, ◌-◌, ◌<◌, ◌≤◌, true, false, List, [], ◌∷◌, ◌++◌, length, take, None, refl, ap, ◌∙◌, arith, unsigned_abs}
 use Rattle.std.proofs.lemmas.List.{length-append}
 use Rattle.std.proofs.lemmas.List.Elements.{All-nil, All-cons, All-push, All-append, All-take, All-drop}

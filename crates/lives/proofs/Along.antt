@@ -1,4 +1,4 @@
--- Where a bench and its mirror are in a life, and where one event more leads them. Assumes nothing.
+-- Where a bench and its mirror are in a life, and where one more event leads them. Assumes nothing.
 --     Along f g l n es x h y i     after the events es the bench has the ledger x and holds h, the mirror has y and holds i, as the life says
 use Rattle.std.proofs.Common.{◌≡◌, ℕ, List, [], ◌∷◌, ◌++◌, sym, ap, ap₂, ◌∙◌}
 use Rattle.lattice.specs.Lattice.{Lattice, Within}

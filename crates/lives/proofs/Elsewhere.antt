@@ -34,7 +34,7 @@ module _ (l : Lattice) (c : Record) (led : Ledger) (takes : takes_cells c ≡ tr
       ap (λ e. cond (permits led.state (kind_of c)) (if_accepted e (effect f g c led l) l) l) (refused_cells l.width l.height (length l.cells) c led takes other)
       ∙ same (permits led.state (kind_of c)) l
 
--- of two start records that make the same lattice of some cells
+-- two start records that make the same lattice of some cells do so of all
 pub same_held : (s t : Start) (cs ds : List ℕ) → held s cs ≡ held t ds → (es : List ℕ) → held s es ≡ held t es
 same_held s t cs ds is es = ap (λ l. with_cells l es) is
 

@@ -2,7 +2,7 @@
 --     lent_count k n t         how many bytes a call gets that is lent t, if its bench has k cells
 --     is_part t                whether t lends bytes of `second`
 --     lent_cells w h n e       how many bytes the call of the event e gets as cells
---     is_call w h n e led      whether e is a call of the life: the state permits it, and no bytes of `second` stand for its cells in just the right number, w * h
+--     is_call w h n e led      whether e is a call of the life: the state permits it, and the cells that it needs, if any, are not w * h bytes of `second`
 --     event_told w h n e led   the answer to e: PassedOver if it is no call of the life, and Given for Open and Close
 --     event_booked w h n e led     the ledger after e
 --     event_made f g n e led l     the lattice after e, if l is held before it; f and g are the two functions of the map

@@ -2,7 +2,7 @@
 -- in their order.
 --     life_ledger l n es          the ledger after the events
 --     life_lattice f g l n es     the lattice that is held after them
---     told_after f g l n es e     what the bench reports of one event more, e: the answer to it, and the counts afterwards
+--     told_after f g l n es e     what the bench reports of one more event, e: the answer to it, and the counts afterwards
 --     of_mirror t                 the report t with the opposite clock
 --     seen_after f g l n es e     what bench and mirror report of e: the mirror has had the mirrored events, over the reversed map
 use Rattle.std.specs.Prelude.{ℕ, List, [], ◌∷◌, ◌++◌, map, fold, neg_ℤ}

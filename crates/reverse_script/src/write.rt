@@ -28,7 +28,7 @@ fn put_all(journal: &Journal, script: &mut [u8]) -> usize
     end
 }
 
-/// Writes the records that undo the actions of the journal that stand, from the last to the first, as text. Returns the length of the text in bytes.
+/// Writes the records that undo the standing actions of the journal, from the last to the first, as text. Returns the length of the text in bytes.
 /// Refused with `MemoryTooShort` if the memory has fewer bytes.
 pub fn write_reverse_script(journal: &Journal, memory: &mut [u8]) -> Result<usize, ScriptRefusal>
     ensures answer { ScriptWritten (standing_of journal.now) memory.old memory.new result }

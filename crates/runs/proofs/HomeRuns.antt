@@ -29,7 +29,7 @@ use Rattle.scripts.specs.declared.record.Record.{Record}
 use Rattle.scripts.specs.declared.record.Record.TheVariants as Call
 use Rattle.scripts.specs.declared.state.State.TheVariants.{Rest, Session}
 
--- a call that the state permits and that no cause speaks against is not refused
+-- a call that the state permits and to which no cause applies is not refused
 not_refused : (b t : Bool) (d : Option BenchRefusal) (n : ℕ) → b ≡ true → d ≡ None → (e : BenchRefusal) → cond b (cond t (said (unless d n)) Given) PassedOver ≡ Refused e → ⊥
 not_refused false t d n may none e h = absurd cc
 not_refused true false d n may none e h = absurd cc

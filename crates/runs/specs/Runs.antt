@@ -1,6 +1,6 @@
 -- The run of a script on what is held. Here f and g are the two functions of the map.
 --     first_refused f g s rs     the index of the first of the records rs that is refused, from 0, with its cause; none if all are accepted
---     one_later d                d for a list with one record more at its head
+--     one_later d                d for a list with one more record at its head
 --     here_or a d                the same for a whole list, where a is the answer to its head and d belongs to the rest
 --     made_of d rs               the records of rs that are made, where d is the first that is refused
 --     answer_of n d rs           the result then, if rs begins on line n: how many records were made, or the fault
