@@ -1,6 +1,6 @@
--- What is made and then taken back leaves the lattice as it was. Assumes nothing.
+-- An action that is made and then taken back leaves the lattice as it was. Assumes nothing.
 --     ByteMask f     the mask of f is a byte
---     ByteMasks a    so are those of all flips of the action a
+--     ByteMasks a    so are the masks of all flips of the action a
 use Rattle.std.proofs.Common.{◌≡◌, ℕ, zero, suc, ◌+◌, ◌*◌, ◌^◌, ◌<◌, ◌≤◌, ℤ, pos, negsuc, neg_ℤ, List, [], ◌∷◌, ◌++◌, length, reverse, map, set, get_or, bit_xor, refl, ap, ◌∙◌, ⊎_elim}
 use Rattle.std.proofs.lemmas.Bool.{cases_lt, cases_eq}
 use Rattle.std.proofs.lemmas.List.{get_or-set_same, get_or-set_other, set-set, set-get_or, set_past, reverse-append, map-append}
@@ -95,12 +95,12 @@ module _ (f g : Lattice → Lattice) (laws : Reversible f g) where
   moved_back (pos (suc n)) l w = repeated_undone f g laws.forward_keeps laws.back_undoes_forward (suc n) l w
   moved_back (negsuc n) l w = repeated_undone g f laws.backward_keeps laws.forward_undoes_back (suc n) l w
 
-  -- an action that is taken back leaves the lattice as it was
+  -- one action
   pub made_back : (a : Action) (l : Lattice) → Within l → made f g (reversed a) (made f g a l) ≡ l
   made_back (Step z) l w = moved_back z l w
   made_back (Edit fs) l w = all_flipped_back fs l
 
-  -- so do actions of which the last is taken back first
+  -- several actions, of which the last is taken back first
   pub all_made_back : (acts : List Action) (l : Lattice) → All ByteMasks acts → Within l → all_made f g (home_of acts) (all_made f g acts l) ≡ l
   all_made_back [] l sound w = refl
   all_made_back (a ∷ acts) l sound w =

@@ -1,11 +1,11 @@
 -- Actions, and what they do to a lattice. Here f and g are the two functions of a map.
---     Action           a step by a count, or an edit: flips that are taken together
+--     Action           a step with its count, or an edit, whose flips are made together
 --     moved f g z l    l moved by z: forward by a positive count, back by a negative one
 --     made f g a l     l after the action a
 --     reversed a       the action that takes a back
---     all_made f g acts l    l after the actions acts, the first one first
+--     all_made f g acts l    l after the actions acts, in their order
 --     action_of r      the action that r refers to
---     home_of acts     the actions that lead home from where acts have led: the last one is taken back first
+--     home_of acts     the actions that undo acts: each of them reversed, from the last to the first
 use Rattle.std.specs.Prelude.{suc, List, map, reverse, fold, ℤ, pos, negsuc, neg_ℤ}
 use Rattle.lattice.specs.Lattice.{Lattice}
 use Rattle.lattice.specs.Maps.{repeated}

@@ -1,7 +1,7 @@
 -- Flips of cells.
---     flip_refusal w h c r m     why there is no flip of column c, row r and mask m on a lattice with the sides w and h
---     flipped f l                l where the mask of f is XORed into the cell at the place of its column and row; l itself, where there is no such place
---     all_flipped fs l           l after the flips fs, the first one first
+--     flip_refusal w h c r m     the cause for which a flip of column c, row r and mask m is refused on a lattice with w columns and h rows, or none
+--     flipped f l                l with the mask of f XORed into the cell at its column and row; l itself, where l has no such cell
+--     all_flipped fs l           l after the flips fs, in their order
 use Rattle.std.specs.Prelude.{ℕ, ◌+◌, ◌*◌, ◌&&◌, List, set, fold, Option, Some, None, nat_lt, nat_le, bit_xor, if◌then◌else◌}
 use Rattle.faults.specs.declared.run.BenchRefusal.{BenchRefusal}
 use Rattle.faults.specs.declared.run.BenchRefusal.TheVariants.{OffLattice, Mask}

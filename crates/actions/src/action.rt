@@ -1,4 +1,4 @@
-// Actions: steps, and the flips of a session taken together.
+//! Actions: steps and edits, made and taken back.
 ghost use Rattle.std.specs.Prelude.{◌≡◌, neg_ℤ};
 ghost use Rattle.lattice.specs.Starts.{held};
 ghost use Rattle.actions.specs.Actions.{moved, made, reversed};
@@ -7,7 +7,7 @@ use crate::flip::{Flip, make_flips, take_back_flips};
 use lattice::map::Map;
 use lattice::start::Start;
 
-// Moves forward by a positive count, back by a negative one.
+/// Moves the lattice by `count` steps: forward if it is positive, back if it is negative.
 pub fn move_by<M: Map>(map: &M, count: i32, start: &mut Start, cells: &mut [u8])
     ensures { held start.new cells.new ≡ moved (M.forward map.now) (M.backward map.now) count (held start.old cells.old) }
 {
@@ -18,7 +18,7 @@ pub fn move_by<M: Map>(map: &M, count: i32, start: &mut Start, cells: &mut [u8])
     }
 }
 
-// Moves as the opposite count would, also where its type has no opposite.
+/// Moves the lattice by `count` steps the other way. Unlike `move_by` with the count negated, it is also defined for `i32::MIN`.
 pub fn move_back_by<M: Map>(map: &M, count: i32, start: &mut Start, cells: &mut [u8])
     ensures { held start.new cells.new ≡ moved (M.forward map.now) (M.backward map.now) (neg_ℤ count) (held start.old cells.old) }
 {
@@ -29,17 +29,19 @@ pub fn move_back_by<M: Map>(map: &M, count: i32, start: &mut Start, cells: &mut 
     }
 }
 
-// An action, with its flips where they are kept.
+/// An action that borrows its flips from where they are stored.
 #[derive(Clone, Copy)]
 pub enum ActionRef<'a> {
+    /// A step by this count, which is negative for a step back.
     Step(i32),
+    /// An edit: the flips of a closed session, the first one first.
     Edit(&'a [Flip]),
 }
 
 impl ActionRef<'_> {
     ghost use Rattle.actions.specs.Actions.{action_of};
 
-    // Makes the action.
+    /// Makes the action.
     pub fn make<M: Map>(self, map: &M, start: &mut Start, cells: &mut [u8])
         ensures { held start.new cells.new ≡ made (M.forward map.now) (M.backward map.now) (action_of self.entry) (held start.old cells.old) }
     {
@@ -49,7 +51,7 @@ impl ActionRef<'_> {
         }
     }
 
-    // Takes the action back.
+    /// Takes the action back: a step by moving the other way, an edit from its last flip to its first.
     pub fn take_back<M: Map>(self, map: &M, start: &mut Start, cells: &mut [u8])
         ensures { held start.new cells.new ≡ made (M.forward map.now) (M.backward map.now) (reversed (action_of self.entry)) (held start.old cells.old) }
     {

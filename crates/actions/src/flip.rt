@@ -1,4 +1,4 @@
-// Flips of cells.
+//! Flips: masks that are XORed into single cells.
 ghost use Rattle.std.specs.Prelude.{◌≡◌, reverse};
 ghost use Rattle.lattice.specs.Starts.{width_of, height_of, held};
 ghost use Rattle.actions.specs.Answers.{unless};
@@ -9,7 +9,7 @@ use lattice::start::Start;
 
 const MAX_MASK: u32 = 255;
 
-// The mask is XORed into the cell of this column and row.
+/// A mask to be XORed into one cell, which is given by its column and row, both counted from 0.
 #[derive(Clone, Copy, PartialEq, Eq, Debug)]
 pub struct Flip {
     pub col: u8,
@@ -18,7 +18,7 @@ pub struct Flip {
 }
 
 impl Flip {
-    // A flip on a lattice of these sides.
+    /// A flip on a lattice with these sides. Refused with `OffLattice`, then with `Mask`, which must be a byte other than 0.
     pub fn new(start: &Start, col: u32, row: u32, mask: u32) -> Result<Flip, BenchRefusal>
         ensures { result ≡ unless (flip_refusal (width_of start.now) (height_of start.now) col row mask) (record { col = col; row = row; mask = mask }) }
     {
@@ -35,7 +35,7 @@ impl Flip {
         })
     }
 
-    // Makes the flip at the place of its column and row. Where there is no such place, there is nothing to flip.
+    /// Flips one cell, or nothing if `cells` is too short to have it.
     pub fn make(self, start: &Start, cells: &mut [u8])
         ensures { held start.now cells.new ≡ flipped self (held start.now cells.old) }
     {
@@ -46,7 +46,7 @@ impl Flip {
     }
 }
 
-// Makes flips, the first one first.
+/// Makes the flips in their order.
 pub fn make_flips(flips: &[Flip], start: &Start, cells: &mut [u8])
     ensures { held start.now cells.new ≡ all_flipped flips.now (held start.now cells.old) }
 {
@@ -55,7 +55,7 @@ pub fn make_flips(flips: &[Flip], start: &Start, cells: &mut [u8])
     }
 }
 
-// Makes flips once more, the last one first, which takes them back.
+/// Takes back flips that were made in their order: makes each once more, from the last to the first.
 pub fn take_back_flips(flips: &[Flip], start: &Start, cells: &mut [u8])
     ensures { held start.now cells.new ≡ all_flipped (reverse flips.now) (held start.now cells.old) }
 {

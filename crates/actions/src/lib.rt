@@ -1,4 +1,4 @@
-// What a bench does to a lattice: flips and actions, made and taken back.
+//! What a bench does to a lattice: flips and actions, made and taken back.
 #![tactic(auto)]
 
 pub mod action;

@@ -13,7 +13,7 @@ use Rattle.scripts.specs.Records.{kind_of}
 use Rattle.scripts.specs.States.{permits}
 use Rattle.scripts.specs.declared.record.Record.{Record}
 
--- b whether the state permits the call, t whether it takes cells, d its refusal
+-- b: the state permits the call; t: it needs cells; d: its refusal
 module _ {A : Type 0} (x y : A) (n : ℕ) (e : BenchRefusal) where
   here : (b t : Bool) (d : Option BenchRefusal) → cond b (cond t (said (unless d n)) Given) PassedOver ≡ Refused e → cond b (if_accepted d x y) y ≡ y
   here false t d h = refl

@@ -1,6 +1,6 @@
--- What calls answer.
---     said a           the answer of a call that answers a
---     told l c led     what the call c answers that is handed the cells of l; it is passed over if the state does not permit it, and open and close give only the bench
+-- What calls return, as values.
+--     said a           the answer of a call whose result is a
+--     told l c led     the answer to the call c, made with the cells of l: PassedOver where the state does not permit c, and Given for Open and Close, which return no number
 use Rattle.std.specs.Prelude.{ℕ, Result, Ok, Err, if◌then◌else◌}
 use Rattle.any_bench.specs.declared.answer.Answer.{Answer}
 use Rattle.any_bench.specs.declared.answer.Answer.TheVariants.{PassedOver, Given, Standing, Refused}

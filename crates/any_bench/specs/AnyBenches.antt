@@ -1,7 +1,7 @@
 -- What a bench holds, in whichever state it is.
 --     any_map b, any_start b     its map and its start record
 --     any_ledger b               its ledger
---     any_handed b cs            the lattice of its start record and the cells cs that a call is handed
+--     any_handed b cs            the lattice made of its start record and of cs, the cells passed to a call
 use Rattle.std.specs.Prelude.{ℕ, List}
 use Rattle.any_bench.specs.declared.call.AnyBench.{AnyBench}
 use Rattle.any_bench.specs.declared.call.AnyBench.TheVariants.{Rest, Session}

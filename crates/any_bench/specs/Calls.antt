@@ -1,4 +1,4 @@
--- What a call does that is handed the cells of the lattice l: nothing, if the state does not permit it.
+-- What a call does, made with the cells of the lattice l: nothing, if the state does not permit it.
 --     booked_if l c led      the ledger after the call c
 --     made_if f g c led l    l after it, where f and g are the two functions of the map
 use Rattle.std.specs.Prelude.{if◌then◌else◌}

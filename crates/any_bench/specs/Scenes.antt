@@ -1,9 +1,9 @@
--- A bench and its cells as values.
+-- A bench together with its cells, as a value.
 --     Scene                   a ledger, and the lattice that is held
---     scene_of b cs           those of the bench b, whose cells are cs
---     told_at c s             what the call c answers that is handed the cells of the lattice of s
---     after_call f g c s      what is held after it, where f and g are the two functions of the map
---     after_calls f g s cs    what is held after the calls cs, the first one first
+--     scene_of b cs           those of the bench b with the cells cs
+--     told_at c s             the answer to the call c, made with the cells of s
+--     after_call f g c s      s after that call, where f and g are the two functions of the map
+--     after_calls f g s cs    s after the calls cs, in their order
 use Rattle.std.specs.Prelude.{ℕ, List, fold}
 use Rattle.any_bench.specs.Answers.{told}
 use Rattle.any_bench.specs.AnyBenches.{any_ledger, any_handed}

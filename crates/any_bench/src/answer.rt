@@ -1,13 +1,15 @@
-// What a call answers.
+//! The answer to a call that is passed as a value.
 use faults::run::BenchRefusal;
 
+/// The outcome of a call.
 #[derive(Clone, Copy, PartialEq, Eq, Debug)]
 pub enum Answer {
-    // The call was not made: the state does not permit it, or it is no call of a life.
+    /// The call was skipped: the state does not permit it, or it is an event that is no call of the life.
     PassedOver,
-    // An open or a close: the bench itself.
+    /// The call was `open` or `close`, which are never refused and return the bench alone.
     Given,
-    // So many actions stand.
+    /// The call was accepted; so many actions stand now.
     Standing(usize),
+    /// The call was refused, for this cause.
     Refused(BenchRefusal),
 }

@@ -1,4 +1,4 @@
-// A bench in either state.
+//! A bench in either state.
 ghost use Rattle.std.specs.Prelude.{◌≡◌, ◌≤◌, unsigned_abs};
 ghost use Rattle.any_bench.specs.Answers.{said, told};
 ghost use Rattle.any_bench.specs.AnyBenches.{any_map, any_start, any_ledger, any_handed};
@@ -12,9 +12,12 @@ use lattice::map::Map;
 use lattice::start::Start;
 use scripts::record::Record;
 
+/// A bench whose state is known only when the program runs, as it is when the calls come from a text.
 #[derive(Drop)]
 pub enum AnyBench<'m, M> {
+    /// At rest: steps, undoes and redoes.
     Rest(Bench<'m, M>),
+    /// In session: takes flips.
     Session(Session<'m, M>),
 }
 
@@ -34,7 +37,7 @@ impl<'m, M: Map> AnyBench<'m, M> {
     ghost use Rattle.ledger.specs.Ledgers.{at_opening, counts};
     ghost use Rattle.ledger.specs.Refusals.{max_clock};
 
-    // Opens a bench.
+    /// Opens a bench, at rest.
     pub fn new(map: &'m M, start: Start) -> AnyBench<'m, M>
         ensures map { any_map result ≡ map.now }
         ensures start { any_start result ≡ start }
@@ -43,7 +46,7 @@ impl<'m, M: Map> AnyBench<'m, M> {
         AnyBench::Rest(Bench::new(map, start))
     }
 
-    // The start record of the lattice that is held now.
+    /// The start record of the lattice that is held now: its sides, and its phase.
     pub fn start(&self) -> Start
         ensures { result ≡ any_start self.now }
     {
@@ -53,6 +56,7 @@ impl<'m, M: Map> AnyBench<'m, M> {
         }
     }
 
+    /// The count call; it is permitted in both states.
     pub fn counts(&self) -> Counts
         ensures numbers { result ≡ counts (any_ledger self.now) (phase_of (any_start self.now)) }
         ensures within { unsigned_abs result.2 ≤ max_clock }
@@ -63,7 +67,7 @@ impl<'m, M: Map> AnyBench<'m, M> {
         }
     }
 
-    // Makes the call, if the state permits it.
+    /// Makes the call, or skips it where the state does not permit it. `open` and `close` ignore `cells`; the other calls need one byte for each cell.
     pub fn call(self, call: Record, cells: &mut [u8]) -> (AnyBench<'m, M>, Answer)
         ensures answer { result.1 ≡ told (any_handed self.entry cells.old) call (any_ledger self.entry) }
         ensures ledger { any_ledger result.0 ≡ booked_if (any_handed self.entry cells.old) call (any_ledger self.entry) }

@@ -1,4 +1,4 @@
-// A bench in either state, and calls as values.
+//! A bench in either state, and calls as values.
 #![tactic(auto)]
 
 pub mod answer;

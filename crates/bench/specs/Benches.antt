@@ -1,7 +1,7 @@
 -- What a bench at rest holds.
 --     map_of b, start_of b     its map and its start record
 --     ledger_of b              its ledger, as its journal keeps it
---     handed b cs              the lattice of its start record and the cells cs that a call is handed
+--     handed b cs              the lattice made of its start record and of cs, the cells passed to a call
 use Rattle.std.specs.Prelude.{ℕ, List, []}
 use Rattle.bench.specs.declared.bench.Bench.{Bench}
 use Rattle.journal.specs.Journals.{standing_of, undone_of}

@@ -1,8 +1,8 @@
--- What a call does that is handed the cells of the lattice l.
---     answered l c led       what the call c answers: how many actions stand then, or why it is refused
+-- What a call does, made with the cells of the lattice l.
+--     answered l c led       the result of the call c: how many actions stand after it, or why it is refused
 --     booked_by l c led      the ledger after the call
 --     made_by f g c led l    l after the call, where f and g are the two functions of the map
--- A call that is refused leaves the ledger and the lattice as they were.
+-- A refusal leaves the ledger and the lattice as they were.
 use Rattle.std.specs.Prelude.{ℕ, length, Result}
 use Rattle.faults.specs.declared.run.BenchRefusal.{BenchRefusal}
 use Rattle.lattice.specs.Lattice.{Lattice}

@@ -1,7 +1,7 @@
 -- What a bench in session holds.
 --     session_map s, session_start s     its map and its start record
 --     session_ledger s                   its ledger, as its journal keeps it
---     session_handed s cs                the lattice of its start record and the cells cs that a call is handed
+--     session_handed s cs                the lattice made of its start record and of cs, the cells passed to a call
 use Rattle.std.specs.Prelude.{ℕ, List, []}
 use Rattle.bench.specs.declared.session.Session.{Session as BenchSession}
 use Rattle.journal.specs.OpenJournals.{open_standing, session_of}

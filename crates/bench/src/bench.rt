@@ -1,4 +1,4 @@
-// A bench at rest.
+//! A bench at rest.
 ghost use Rattle.std.specs.Prelude.{◌≡◌, ◌≤◌, length, unsigned_abs, IsOk};
 ghost use Rattle.bench.specs.Benches.{map_of, start_of, ledger_of, handed};
 ghost use Rattle.bench.specs.Calls.{answered, booked_by, made_by};
@@ -16,10 +16,10 @@ use lattice::start::Start;
 use reverse_script::refusal::ScriptRefusal;
 use reverse_script::write::write_reverse_script;
 
-// What a count call answers: actions that stand, actions that were undone, the clock, the phase.
+/// The result of a count call: actions that stand, actions that were undone, the clock in steps, the phase (0 or 1).
 pub type Counts = (usize, usize, i32, u8);
 
-// It holds no cells: a call that needs them is lent them.
+/// A bench at rest. It borrows its map and has no cells of its own: each call that needs cells borrows them from the caller, one byte for each cell.
 #[derive(Drop)]
 pub struct Bench<'m, M> {
     pub(crate) map: &'m M,
@@ -32,7 +32,7 @@ impl<'m, M: Map> Bench<'m, M> {
     ghost use Rattle.ledger.specs.Ledgers.{at_opening, counts, booked};
     ghost use Rattle.ledger.specs.Refusals.{max_clock};
 
-    // Opens a bench. The lattice of its opening is the start record with the cells that the caller has then.
+    /// Opens a bench. It reads no cells; the opening lattice consists of `start` and of the cells that the caller has at this time.
     pub fn new(map: &'m M, start: Start) -> Bench<'m, M>
         ensures map { map_of result ≡ map.now }
         ensures start { start_of result ≡ start }
@@ -45,13 +45,14 @@ impl<'m, M: Map> Bench<'m, M> {
         }
     }
 
-    // The start record of the lattice that is held now.
+    /// The start record of the lattice that is held now: its sides, and its phase.
     pub fn start(&self) -> Start
         ensures { result ≡ start_of self.now }
     {
         self.start
     }
 
+    /// The count call, which needs no cells.
     pub fn counts(&self) -> Counts
         ensures numbers { result ≡ counts (ledger_of self.now) (phase_of (start_of self.now)) }
         ensures within { unsigned_abs result.2 ≤ max_clock }
@@ -64,7 +65,8 @@ impl<'m, M: Map> Bench<'m, M> {
         )
     }
 
-    // Moves forward by a positive count, back by a negative one.
+    /// Moves the lattice forward if `count` is positive, else back. Returns how many actions stand then.
+    /// Refused with `Cells`, `StepCount` or `JournalFull`, in this order.
     pub fn step(&mut self, count: i32, cells: &mut [u8]) -> Result<usize, BenchRefusal>
         ensures answer { result ≡ answered (handed self.old cells.old) (Step count) (ledger_of self.old) }
         ensures ledger { ledger_of self.new ≡ booked_by (handed self.old cells.old) (Step count) (ledger_of self.old) }
@@ -79,7 +81,7 @@ impl<'m, M: Map> Bench<'m, M> {
         Ok(self.journal.standing())
     }
 
-    // Takes the latest action back.
+    /// Takes back the last action that stands. Returns how many still stand. Refused with `Cells`, then with `NothingToUndo`.
     #[tactic(auto, using(ledger::proofs::Latest::none_latest))]
     pub fn undo(&mut self, cells: &mut [u8]) -> Result<usize, BenchRefusal>
         ensures answer { result ≡ answered (handed self.old cells.old) Undo (ledger_of self.old) }
@@ -98,7 +100,7 @@ impl<'m, M: Map> Bench<'m, M> {
         Ok(self.journal.standing())
     }
 
-    // Makes again what was taken back last.
+    /// Makes again the action that was undone last. Returns how many stand then. Refused with `Cells`, then with `NothingToRedo`.
     pub fn redo(&mut self, cells: &mut [u8]) -> Result<usize, BenchRefusal>
         ensures answer { result ≡ answered (handed self.old cells.old) Redo (ledger_of self.old) }
         ensures ledger { ledger_of self.new ≡ booked_by (handed self.old cells.old) Redo (ledger_of self.old) }
@@ -116,17 +118,17 @@ impl<'m, M: Map> Bench<'m, M> {
         Ok(self.journal.standing())
     }
 
-    // Writes the script that leads home from the lattice that is held: for each action that stands, from the last to the first, a step by the negated
-    // count, or a session with the flips once more, the last one first. Answers its length.
+    /// Writes a script that, run on what is held, restores the opening lattice: it undoes the actions that stand, from the last to the first, and
+    /// has a session for each edit. Returns its length in bytes. Refused with `MemoryTooShort` if it does not fit.
     pub fn reverse_script(&self, memory: &mut [u8]) -> Result<usize, ScriptRefusal>
         ensures answer { ScriptWritten (ledger_of self.now).standing memory.old memory.new result }
-        // 7,168 bytes are always enough
+        // a memory of 7,168 bytes is never too short
         ensures enough { max_script ≤ length memory.old → IsOk result }
     {
         write_reverse_script(&self.journal, memory)
     }
 
-    // Opens a session. What was undone is forgotten.
+    /// Starts a session, and forgets what was undone.
     pub fn open(self) -> Session<'m, M>
         ensures ledger { session_ledger result ≡ booked Open (ledger_of self.entry) }
         ensures start { session_start result ≡ start_of self.entry }

@@ -1,4 +1,4 @@
-// The bench: it moves a lattice forward and back, takes edits, undoes and redoes, and keeps no frame.
+//! The bench: steps, edits, undo and redo on a lattice that the caller lends, without storing a copy of any lattice.
 #![tactic(auto)]
 
 pub mod bench;

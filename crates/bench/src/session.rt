@@ -1,4 +1,4 @@
-// A bench in session.
+//! A bench in session.
 ghost use Rattle.std.specs.Prelude.{◌≡◌, ◌≤◌, unsigned_abs};
 ghost use Rattle.bench.specs.Benches.{map_of, start_of, ledger_of};
 ghost use Rattle.bench.specs.Calls.{answered, booked_by, made_by};
@@ -12,7 +12,7 @@ use journal::open_journal::OpenJournal;
 use lattice::map::Map;
 use lattice::start::Start;
 
-// It takes edits, and no step.
+/// A bench in session: it takes flips, and closing the session makes an edit of them. To step, close it first.
 #[derive(Drop)]
 pub struct Session<'m, M> {
     pub(crate) map: &'m M,
@@ -25,13 +25,14 @@ impl<'m, M: Map> Session<'m, M> {
     ghost use Rattle.ledger.specs.Ledgers.{counts, booked};
     ghost use Rattle.ledger.specs.Refusals.{max_clock};
 
-    // The start record of the lattice that is held now.
+    /// The start record of the lattice that is held now: its sides, and its phase.
     pub fn start(&self) -> Start
         ensures { result ≡ session_start self.now }
     {
         self.start
     }
 
+    /// The count call, which needs no cells. Flips of the session are no action yet.
     pub fn counts(&self) -> Counts
         ensures numbers { result ≡ counts (session_ledger self.now) (phase_of (session_start self.now)) }
         ensures within { unsigned_abs result.2 ≤ max_clock }
@@ -44,7 +45,8 @@ impl<'m, M: Map> Session<'m, M> {
         )
     }
 
-    // XORs the mask into the cell of this column and row.
+    /// Flips the bits of the mask in one cell; columns and rows count from 0. Returns how many actions stand, which a flip leaves as it is.
+    /// Refused with `Cells`, `OffLattice`, `Mask` or `JournalFull`, in this order.
     pub fn flip(
         &mut self,
         col: u32,
@@ -66,7 +68,7 @@ impl<'m, M: Map> Session<'m, M> {
         Ok(self.journal.standing())
     }
 
-    // Takes the flips of the session back.
+    /// Takes back the flips of the session, and goes on with none. Returns how many actions stand. Refused only with `Cells`.
     pub fn clear(&mut self, cells: &mut [u8]) -> Result<usize, BenchRefusal>
         ensures answer { result ≡ answered (session_handed self.old cells.old) Clear (session_ledger self.old) }
         ensures ledger { session_ledger self.new ≡ booked_by (session_handed self.old cells.old) Clear (session_ledger self.old) }
@@ -81,7 +83,7 @@ impl<'m, M: Map> Session<'m, M> {
         Ok(self.journal.standing())
     }
 
-    // Closes the session. Its flips stand as one edit, if there are any.
+    /// Ends the session. Its flips become one action; without any flip nothing is added.
     pub fn close(self) -> Bench<'m, M>
         ensures ledger { ledger_of result ≡ booked Close (session_ledger self.entry) }
         ensures start { start_of result ≡ session_start self.entry }

@@ -1,4 +1,4 @@
-// The events of the lives.
+//! The events of the lives.
 use lives::event::{Event, Lent};
 use scripts::record::Record;
 use std::alloc::{AllocError, Allocator};
@@ -84,7 +84,7 @@ fn at_the_end() -> [Event; 10] {
     ]
 }
 
-// Every call, every cause of a refusal but 17, and events that are passed over.
+// Every call, every cause of a refusal but 17, and events that are skipped.
 pub(crate) fn long_life<A: Allocator>(heap: A) -> Result<Vec<Event, A>, AllocError> {
     let mut events = Vec::new(heap);
     events.extend_from_slice(&at_rest())?;

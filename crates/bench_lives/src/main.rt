@@ -1,4 +1,4 @@
-// Whole lives over two maps, each with its mirror and the way back, and one that ends in session.
+//! Whole lives over two maps, each with its mirror and the way back, and one that ends in session.
 #![tactic(auto)]
 
 mod events;

@@ -1,4 +1,4 @@
-// What is printed of a call, and of a lattice.
+//! What is printed of a call, and of a lattice.
 use any_bench::answer::Answer;
 use anyhow::Context;
 use bench::bench::Counts;
@@ -10,7 +10,7 @@ use scripts::write::write_record;
 use std::io;
 use std::io::Write;
 
-// The longest record's line.
+// How long the line of a record can be.
 const MAX_RECORD: usize = 38;
 
 fn show_answer(rt: &impl Print, answer: Answer) -> anyhow::Result<()> {
@@ -49,7 +49,7 @@ fn show_record(rt: &impl Print, record: Record) -> anyhow::Result<()> {
     Ok(())
 }
 
-// One line: what bench and mirror told, the memory that the call is handed, and the call.
+// One line: what bench and mirror report, the memory that the call gets, and the call.
 pub(crate) fn show_event(rt: &impl Print, event: Event, seen: Seen) -> anyhow::Result<()> {
     show_told(rt, seen.bench)?;
     print!(rt; "\t")?;

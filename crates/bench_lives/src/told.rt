@@ -1,4 +1,4 @@
-// All that is printed of a life.
+//! All that is printed of a life.
 use crate::shown::{show_board, show_counts, show_event};
 use any_bench::answer::Answer;
 use anyhow::Context;
@@ -17,10 +17,10 @@ const WIDTH: u32 = 12;
 
 const HEIGHT: u32 = 8;
 
-// The second memory is longer than the cells.
+// The memory `second` is longer than the cells.
 const SECOND: usize = 100;
 
-// Always enough for a reverse script.
+// Enough for any reverse script.
 const MAX_SCRIPT: usize = 7_168;
 
 const UNTOLD: Told = Told {

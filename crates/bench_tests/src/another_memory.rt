@@ -1,4 +1,4 @@
-// Calls that are handed a memory of another length.
+//! Calls with a memory that is too short or too long.
 use bench::bench::Bench;
 use faults::run::BenchRefusal;
 use lattice::start::Start;

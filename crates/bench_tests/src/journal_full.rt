@@ -1,4 +1,4 @@
-// A journal that has no room left.
+//! A journal that has no room left.
 use bench::bench::Bench;
 use faults::run::BenchRefusal;
 use lattice::map::Map;
@@ -6,7 +6,7 @@ use lattice::start::Start;
 use named_maps::blocks::bbm;
 use std::test::Fail;
 
-// Makes so many steps, of 1 and -1 in turn.
+// Makes so many steps, by 1 and -1 in turn.
 fn make_steps<M: Map>(bench: &mut Bench<'_, M>, count: u32, cells: &mut [u8]) -> Result<(), Fail> {
     for made in 0..count {
         bench.step(if made % 2 == 0 { 1 } else { -1 }, cells)?;
@@ -23,7 +23,7 @@ fn entry_256_is_taken_and_the_next_is_not(rt: HostRuntime) -> Result<(), Fail> {
     assert_eq!(rt; bench.counts(), (255, 0, 1, 1));
     assert_eq!(rt; bench.step(-1, &mut cells), Ok(256));
     assert_eq!(rt; bench.step(1, &mut cells), Err(BenchRefusal::JournalFull));
-    // the count is looked at first
+    // the count is checked first
     assert_eq!(rt; bench.step(0, &mut cells), Err(BenchRefusal::StepCount));
     assert_eq!(rt; bench.counts(), (256, 0, 0, 0));
     assert!(rt; cells == [1, 0, 0, 0]);
@@ -50,7 +50,7 @@ fn flips_are_entries_too(rt: HostRuntime) -> Result<(), Fail> {
     let mut bench = session.close();
     assert_eq!(rt; bench.counts(), (7, 0, 0, 0));
     assert_eq!(rt; bench.step(1, &mut cells), Err(BenchRefusal::JournalFull));
-    // the edit takes all its entries along
+    // undoing the edit frees all its entries
     assert_eq!(rt; bench.undo(&mut cells), Ok(6));
     assert_eq!(rt; bench.step(1, &mut cells), Ok(7));
     Ok(())

@@ -1,4 +1,4 @@
-// Examples of lives of a bench, at the edges.
+//! Examples of the life of a bench, at its limits.
 #![tactic(auto)]
 
 #[cfg(test)]

@@ -1,4 +1,4 @@
-// The longest script that a bench can write.
+//! The longest script that a bench can write.
 use bench::bench::Bench;
 use lattice::map::Map;
 use lattice::start::Start;
@@ -11,7 +11,7 @@ const LONGEST: usize = 7168;
 
 const CELLS: usize = 128 * 128;
 
-// Makes 256 edits of one flip each, all with three digits for column, row and mask.
+// Makes 256 edits of one flip each, with three digits in each column, row and mask.
 fn make_edits<'m, M: Map>(bench: Bench<'m, M>, cells: &mut [u8]) -> Result<Bench<'m, M>, Fail> {
     let mut bench = bench;
     for made in 0..256u32 {
@@ -22,7 +22,7 @@ fn make_edits<'m, M: Map>(bench: Bench<'m, M>, cells: &mut [u8]) -> Result<Bench
     Ok(bench)
 }
 
-// So many bytes from the front.
+// The first `len` bytes, or all where there are fewer.
 fn front(bytes: &[u8], len: usize) -> &[u8] {
     let end = len.min(bytes.len());
     &bytes[..end]

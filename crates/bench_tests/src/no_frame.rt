@@ -1,4 +1,4 @@
-// What a bench has room for.
+//! How large a bench is.
 use any_bench::call::AnyBench;
 use bench::bench::Bench;
 use bench::session::Session;

@@ -1,4 +1,4 @@
-// Scripts that are run on a bench.
+//! Scripts that are run on a bench.
 use bench::bench::Bench;
 use faults::report::Report;
 use faults::run::RunFault;

@@ -1,4 +1,4 @@
-// Sessions and their flips.
+//! Sessions and their flips.
 use bench::bench::Bench;
 use faults::run::BenchRefusal;
 use lattice::start::Start;

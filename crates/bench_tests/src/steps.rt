@@ -1,4 +1,4 @@
-// Steps, undone and redone.
+//! Steps, undone and redone.
 use bench::bench::Bench;
 use faults::run::BenchRefusal;
 use lattice::start::Start;

@@ -1,4 +1,4 @@
-// Whole lives, with mirror and way back.
+//! Whole lives, with mirror and way back.
 use any_bench::answer::Answer;
 use faults::run::BenchRefusal;
 use lattice::start::Start;
@@ -27,7 +27,7 @@ fn own(call: Record) -> Event {
     }
 }
 
-// A step, a flip that the state does not permit, a step count that has no opposite, an undo that is handed other memories, and a step.
+// A step, a flip that the state does not permit, a step count that has no opposite, undos with other memories, and a step.
 fn events() -> [Event; 6] {
     let undo = Record::Undo;
     [
@@ -114,7 +114,7 @@ fn each_event_is_told_of(rt: HostRuntime) -> Result<(), Fail> {
     Ok(())
 }
 
-// A life of these events over bbm, with so many bytes for the script.
+// The way back of a life of these events over bbm, with this memory for the script.
 fn way_back(events: &[Event], script: &mut [u8]) -> Result<WayBack, Fail> {
     let mut memories = Memories {
         cells: &mut [1, 0, 0, 0],

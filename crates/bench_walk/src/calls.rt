@@ -1,4 +1,4 @@
-// The calls of a bench that take cells, each made and shown.
+//! The calls of a bench that need cells, each made and printed.
 use crate::shown::show_answer;
 use bench::bench::Bench;
 use bench::session::Session;

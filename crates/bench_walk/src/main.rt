@@ -1,4 +1,4 @@
-// Ordinary use of a bench over two maps: steps, sessions, undo and redo, refused calls, and the way home by the reverse script.
+//! Everyday use of a bench over two maps: steps, sessions, undo and redo, refused calls, and the way back by the reverse script.
 #![tactic(auto)]
 
 mod calls;

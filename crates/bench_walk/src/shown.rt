@@ -1,4 +1,4 @@
-// What is printed of a call, and of a lattice.
+//! What is printed of a call, and of a lattice.
 use anyhow::Context;
 use bench::bench::Counts;
 use boards::board_text::board_text;
@@ -23,7 +23,7 @@ pub(crate) fn show_counts(rt: &impl Print, counts: Counts) -> anyhow::Result<()>
     Ok(())
 }
 
-// What stands on a line behind the call.
+// What comes after the call on its line: the result, and the counts.
 pub(crate) fn show_answer(
     rt: &impl Print,
     answer: Result<usize, BenchRefusal>,
@@ -36,7 +36,7 @@ pub(crate) fn show_answer(
     show_counts(rt, counts)
 }
 
-// The line of an open or a close.
+// The line of an `open` or a `close`.
 pub(crate) fn show_given(rt: &impl Print, call: &str, counts: Counts) -> anyhow::Result<()> {
     print!(rt; "{call}\tgiven")?;
     show_counts(rt, counts)

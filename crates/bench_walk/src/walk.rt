@@ -1,4 +1,4 @@
-// A walk on a bench, and the way home.
+//! A walk on a bench, and the way back.
 use crate::calls::{clear, flip, redo, step, undo};
 use crate::shown::{show_board, show_counts, show_given};
 use anyhow::Context;
@@ -14,7 +14,7 @@ const WIDTH: u32 = 12;
 
 const HEIGHT: u32 = 8;
 
-// Always enough for a reverse script.
+// Enough for any reverse script.
 const MAX_SCRIPT: usize = 7_168;
 
 const FIRST_LINE: u32 = 1;
@@ -53,7 +53,7 @@ fn go_out<'m, M: Map>(
     Ok(bench)
 }
 
-// Runs the reverse script of the bench on a new one, over the same map and on the lattice that is held. Answers where that ends.
+// Runs the bench's reverse script on another bench over `map`, which takes over the cells. Returns the start record that it ends with.
 fn go_home<M: Map>(
     rt: &(impl Print + Alloc),
     map: &M,

@@ -1,4 +1,4 @@
--- The events of the records that were read, and of those that are left. Assumes nothing.
+-- The events of the records read so far, and those of the records that are left. Assumes nothing.
 use Rattle.std.proofs.Common.{◌≡◌, List, [], ◌∷◌, ◌++◌, map, Ok, Some, None, Option, refl, sym, ◌∙◌, ap}
 use Rattle.std.proofs.lemmas.List.{append_assoc, append-nil}
 use Rattle.lives.specs.declared.event.Event.{Event}
@@ -8,7 +8,7 @@ use Rattle.scripts.specs.declared.record.Record.{Record}
 use Rattle.scripts.specs.declared.records.Records.{Records}
 use Rattle.home_and_mirror.specs.Events.{own_event}
 
--- es are the events of the records that `first` had left and `now` has no longer
+-- es are the events of the records that `first` had left and `now` no longer has
 abbrev pub EventsRead : Records → Records → List Event → Type 0
 EventsRead first now es = (all rs : List Record) → left_of first ≡ Ok all → left_of now ≡ Ok rs → map own_event all ≡ es ++ map own_event rs
 

@@ -1,7 +1,7 @@
--- What is printed of what is alike.
+-- What is printed of the comparisons.
 --     yes_or_no b                          b as a word
---     home_lines board clock               whether the way home ends on the opening board, and with the opposite clock
---     mirror_lines cells phase counts clock     whether the mirror holds the same cells at the same phase, with the same counts and the opposite clock
+--     home_lines board clock               whether the way back ends on the opening board, and whether with the opposite clock
+--     mirror_lines cells phase counts clock     whether the mirror has the bench's cells, phase and counts of actions, and the opposite clock
 use Rattle.std.specs.Prelude.{List, ℕ, ◌++◌, Bool, codes, if◌then◌else◌}
 
 abbrev pub yes_or_no : Bool → List ℕ

@@ -1,4 +1,4 @@
-// Whether what a life came to is alike where it should be.
+//! Comparing the ends of a life: the way back with the opening, and the mirror with the bench.
 ghost use Rattle.std.specs.Prelude.{◌≡◌, Some, neg_ℤ};
 ghost use Rattle.std.specs.Bool.{Decides};
 ghost use Rattle.home_and_mirror.specs.Alike.{yes_or_no, home_lines, mirror_lines};
@@ -25,7 +25,7 @@ fn are_same(start: &Start, other: &Start) -> bool
     start == other
 }
 
-// The end of the way home, beside the opening.
+// Whether the way back ends as it should, given where the life began.
 #[derive(Clone, Copy)]
 pub(crate) struct HomeAlike {
     board: bool,
@@ -60,7 +60,7 @@ impl fmt::Display for HomeAlike {
     }
 }
 
-// The mirror, beside the bench.
+// Whether the mirror ends as it should, given where the bench ends.
 #[derive(Clone, Copy)]
 pub(crate) struct MirrorAlike {
     cells: bool,

@@ -1,4 +1,4 @@
-// Makes a job, and shows that its reverse script leads home and that its mirror holds the same.
+//! Runs a job, and shows that its reverse script leads back to its board and that its mirror holds the same.
 #![tactic(auto)]
 
 mod alike;
@@ -9,7 +9,7 @@ use job_texts::read_job::read_job;
 use std::{env, fs};
 use trial::try_job;
 
-// The jobs in the files that the arguments name; the one on standard input, where there are no arguments.
+// Tries the jobs in the files that the arguments name, or else the one on standard input.
 fn main(rt: HostRuntime) -> anyhow::Result<()> {
     let mut named = false;
     for name in env::args(&rt)?.skip(1) {

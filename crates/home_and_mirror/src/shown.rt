@@ -1,4 +1,4 @@
-// What is printed of the way home and of the mirror.
+//! What is printed of the way back and of the mirror.
 use crate::alike::{HomeAlike, MirrorAlike};
 use anyhow::{Context, bail};
 use boards::board_text::board_text;
@@ -13,7 +13,7 @@ fn show_board(rt: &HostRuntime, start: &Start, cells: &[u8]) -> anyhow::Result<(
     Ok(())
 }
 
-// The third bench, which has run the reverse script.
+// The third bench, which ran the reverse script.
 pub(crate) fn show_home(
     rt: &HostRuntime,
     outcome: &Outcome,
@@ -39,7 +39,7 @@ pub(crate) fn show_home(
     Ok(())
 }
 
-// The second bench, over the reversed map.
+// The mirror, a bench over the reverse of the map.
 pub(crate) fn show_mirror(
     rt: &HostRuntime,
     outcome: &Outcome,

@@ -1,4 +1,4 @@
-// A job, its way home and its mirror, which one call makes for its whole life.
+//! A job with its way back and its mirror, all from one call that lives its whole life.
 ghost use Rattle.std.specs.Prelude.{◌≡◌, List, IfOk, drop, map};
 ghost use Rattle.home_and_mirror.specs.Events.{own_event};
 ghost use Rattle.scripts.specs.Laws.{Reads};
@@ -19,10 +19,10 @@ use std::alloc::Global;
 use std::io;
 use std::io::Write;
 
-// Always enough for a reverse script.
+// Enough for any reverse script.
 const MAX_SCRIPT: usize = 7_168;
 
-// The records of the job, each handed the cells of its bench.
+// The records of the job as events, each with the cells of its own bench.
 fn events_of(job: &[u8], opening: &Opening, heap: Global) -> anyhow::Result<Vec<Event>>
     ensures { IfOk result (λ v. (rs : List Record) → Reads Rest rs Rest (drop opening.now.script_at job.now) → v.items ≡ map own_event rs) }
 {
@@ -41,7 +41,7 @@ fn events_of(job: &[u8], opening: &Opening, heap: Global) -> anyhow::Result<Vec<
     Ok(events)
 }
 
-// What `lab` prints, and if the job is made, the way home and the mirror.
+// Prints what `lab` prints and then, if all records were made, the way back and the mirror.
 pub(crate) fn try_job(rt: &HostRuntime, job: &[u8]) -> anyhow::Result<()> {
     io::writer(rt).write_all(&lab_text(job, rt.alloc())?)?;
     let mut cells = vec![in rt.alloc(); 0u8; max_cells()]?;

@@ -1,4 +1,4 @@
-// Every fault that a job can have, at its place.
+//! Every fault that a job can have, at its place.
 use faults::report::Report;
 use jobs::job::run_job;
 use std::alloc::{AllocError, Global};
@@ -66,7 +66,7 @@ fn faults_of_the_board(rt: HostRuntime) {
     }
 }
 
-// The memory is asked for behind the board, and before the script.
+// The size of the memory is checked after the board and before the script.
 #[test]
 fn a_memory_that_is_too_short(rt: HostRuntime) {
     let cases: [(&[u8], usize, (u8, u8, usize, usize)); 4] = [
@@ -92,7 +92,7 @@ fn a_memory_that_is_too_short(rt: HostRuntime) {
     }
 }
 
-// Behind the map line and three lines of a board the script begins with line 5.
+// After the map line and three lines of a board, the script begins on line 5.
 #[test]
 fn faults_of_the_script(rt: HostRuntime) {
     let cases: [(&[u8], (u8, u8, usize, usize)); 7] = [
@@ -163,7 +163,7 @@ fn faults_of_its_run(rt: HostRuntime) {
     }
 }
 
-// One byte too many is told before all else.
+// One byte too many is reported before everything else.
 #[test]
 fn a_job_of_one_byte_too_many(rt: HostRuntime) {
     assert_eq!(rt; fault(&[b'\n'; 65_536], 8), Some((2, 23, 1, 1)));

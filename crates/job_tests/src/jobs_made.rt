@@ -1,4 +1,4 @@
-// Jobs whose records are all made.
+//! Jobs whose records are all made.
 use jobs::done::Done;
 use jobs::job::run_job;
 use jobs::opening::open_job;
@@ -6,7 +6,7 @@ use lattice::start::Start;
 use named_maps::named::NamedMap;
 use std::test::Fail;
 
-// One step of a two by two board, empty for `tron` and else with the upper left cell present. All but `mixed` are worked out by hand.
+// One step of a two-by-two board, which is empty for `tron` and has its upper left cell present for the others. All but `mixed` are worked out by hand.
 #[test]
 fn each_name_runs_its_map(rt: HostRuntime) -> Result<(), Fail> {
     let cases: [(&[u8], [u8; 4]); 4] = [
@@ -37,7 +37,7 @@ fn each_name_runs_its_map(rt: HostRuntime) -> Result<(), Fail> {
     Ok(())
 }
 
-// Four cells in a square have three neighbours each, so the rule answers 1 to each of them; to all others it answers 0.
+// Four cells in a square have three neighbours each, so the rule gives 1 for each of them; for all others it gives 0.
 #[test]
 fn life_is_lifted(rt: HostRuntime) -> Result<(), Fail> {
     let job =
@@ -53,7 +53,7 @@ fn nothing_was_made(done: &Done) -> bool {
     done.made == 0 && done.counts == (0, 0, 0, 1)
 }
 
-// A job may end behind its board.
+// A job may end after its board.
 #[test]
 fn a_script_may_be_empty(rt: HostRuntime) -> Result<(), Fail> {
     let mut cells = [9; 5];
@@ -79,7 +79,7 @@ fn actions_and_undone_ones_are_counted(rt: HostRuntime) -> Result<(), Fail> {
     Ok(())
 }
 
-// Map line, board's line and two rows have 38 bytes, and the script begins with line 5.
+// The map line, the board's line and two rows have 38 bytes, and the script begins on line 5.
 #[test]
 fn a_job_is_opened(rt: HostRuntime) -> Result<(), Fail> {
     let mut cells = [9; 5];

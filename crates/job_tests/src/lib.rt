@@ -1,4 +1,4 @@
-// Examples of jobs, with results worked out by hand or by the model.
+//! Examples of jobs, with results worked out by hand or by the model.
 #![tactic(auto)]
 
 #[cfg(test)]

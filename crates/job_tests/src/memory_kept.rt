@@ -1,7 +1,7 @@
-// What the cells memory holds after a job that is refused.
+//! What the cells memory holds after a job that is refused.
 use jobs::job::run_job;
 
-// The memory after the job; nothing if it is made.
+// The memory after the job; `None` if all its records are made.
 fn memory_after(job: &[u8]) -> Option<[u8; 6]> {
     let mut memory = [7; 6];
     run_job(job, &mut memory).err()?;
@@ -22,7 +22,7 @@ fn a_job_that_its_text_refuses_writes_nothing(rt: HostRuntime) {
     }
 }
 
-// The step is made; in the session that the refusal ends, a flip was made and is taken back.
+// The step stays; the flip of the session that the refusal cuts short is taken back.
 #[test]
 fn a_job_that_is_refused_at_a_record_keeps_the_records_before(rt: HostRuntime) {
     let at_rest = b"map\tbbm\nboard\t2\t2\t0\nrow\t0100\nrow\t0000\nstep\t1\nundo\nundo\n";

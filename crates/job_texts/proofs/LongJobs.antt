@@ -1,4 +1,4 @@
--- Of a job that is too long the bytes beyond the first that is too many do not count. Assumes nothing.
+-- Of a job that is too long, the bytes after the first one beyond the limit do not matter. Assumes nothing.
 use Rattle.std.proofs.Common.{◌≡◌, ℕ, ◌+◌, ◌≤◌, ◌<◌, Bool, true, false, List, [], ◌++◌, length, take, leb, Some, None, Option, Err, IfSome, arith, refl, sym, ◌∙◌, ap, ap₂, subst}
 use Rattle.std.proofs.lemmas.Bool.{leb-true, leb-false, lt-leb}
 use Rattle.std.proofs.lemmas.List.{take_all, length-take-le}
@@ -30,7 +30,7 @@ pub carried : (input : Option (List ℕ)) (v text : List ℕ) (old new : Option 
 carried None v text old new read made written = tt
 carried (Some bs) v text old new read made written = subst (Appends old new) (made ∙ ap lab_text read ∙ cut bs) written
 
--- what is read of the bytes that are left, up to a limit
+-- what is read, up to a limit, of the bytes that are left
 limited : (left : Option (List ℕ)) (s v : List ℕ) (m n : ℕ) → s ≡ [] → m ≡ n → IfSome (option_map (take m) left) (λ xs. v ≡ s ++ xs) → IfSome left (λ bs. v ≡ take n bs)
 limited None s v m n empty limit read = tt
 limited (Some bs) s v m n empty limit read = read ∙ ap₂ (λ l k. l ++ take k bs) empty limit

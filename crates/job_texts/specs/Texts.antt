@@ -1,10 +1,10 @@
 -- What the program `lab` prints for a job.
---     fault_line e           the line of the fault e
---     printed_then a s       what is printed where a is answered and s is held: how it went and the board, or the line of the fault
---     printed_of_job j       what is printed of the job j
---     printed_by a           what is printed of the job a, or the line of its fault
---     printed_for k bs       what is printed of the text bs, if the cells memory has k bytes
---     lab_text bs            the same, if it has room for the cells of every lattice
+--     fault_line e           the line that reports the fault e
+--     printed_then a s       what is printed if a run returns a and leaves s: its line and the board, or the line of its fault
+--     printed_of_job j       what is printed for the job j
+--     printed_by a           what is printed for the job a, or the line of the fault that it is instead
+--     printed_for k bs       what is printed for the text bs, if the cells memory has k bytes
+--     lab_text bs            what is printed for it, if the memory has room for the cells of every lattice
 use Rattle.std.specs.Prelude.{ℕ, List, ◌++◌, Result, Ok, Err}
 use Rattle.any_bench.specs.Scenes.{Scene}
 use Rattle.boards.specs.Boards.{board_text}

@@ -1,4 +1,4 @@
-// What the program `lab` prints.
+//! What the program `lab` prints.
 ghost use Rattle.std.specs.Prelude.{◌≡◌, ◌++◌, length, IfOk};
 ghost use Rattle.boards.specs.Boards.{board_text};
 ghost use Rattle.job_texts.specs.Texts.{fault_line, printed_for, lab_text};
@@ -15,14 +15,14 @@ use jobs::job::run_job;
 use lattice::start::max_cells;
 use std::alloc::{AllocError, Global};
 
-// The line of a fault.
+// The line that reports a fault.
 fn fault_line(fault: RunFault, heap: Global) -> Result<Vec<u8>, AllocError>
     ensures { IfOk result (λ v. v.items ≡ fault_line fault) }
 {
     Ok(format!(in heap; "{}\n", Report::from(fault))?.into_bytes())
 }
 
-// What came of a job whose records were all made, and the board that is held.
+// The line of a job whose records were all made, and the board that is held in the end.
 fn made_text(done: &Done, cells: &[u8], heap: Global) -> Result<Vec<u8>, AllocError>
     requires { Whole (held done.now.start cells.now) }
     ensures { IfOk result (λ v. v.items ≡ ended (done_text done.now.made done.now.counts) ++ board_text (held done.now.start cells.now)) }
@@ -33,7 +33,7 @@ fn made_text(done: &Done, cells: &[u8], heap: Global) -> Result<Vec<u8>, AllocEr
     Ok(text)
 }
 
-// What is printed of a job that is run in these cells.
+// What is printed of a job that is run in this memory.
 #[tactic(auto, using(crate::proofs::Printed::cells_inside, crate::proofs::Printed::whole_held, crate::proofs::Printed::text_is))]
 fn text_in(job: &[u8], cells: &mut [u8], heap: Global) -> Result<Vec<u8>, AllocError>
     ensures { IfOk result (λ v. v.items ≡ printed_for (length cells.old) job.now) }
@@ -44,7 +44,7 @@ fn text_in(job: &[u8], cells: &mut [u8], heap: Global) -> Result<Vec<u8>, AllocE
     }
 }
 
-// All that the program `lab` prints for this job. An error is want of memory.
+/// All that the program `lab` prints for a job: a line of counts and the board, or the line of the fault. An error means out of memory.
 pub fn lab_text(job: &[u8], heap: Global) -> Result<Vec<u8>, AllocError>
     ensures { IfOk result (λ v. v.items ≡ lab_text job.now) }
 {

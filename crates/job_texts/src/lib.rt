@@ -1,4 +1,4 @@
-// How a job is read, and what is printed of it.
+//! Reading a job, and what is printed of it.
 #![tactic(auto)]
 
 pub mod lab_text;

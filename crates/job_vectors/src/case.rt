@@ -1,8 +1,8 @@
-// One line of the input.
+//! One line of the input.
 use anyhow::Context;
 use std::alloc::Global;
 
-// A job, and how many cells the memory has.
+// A job, and how many bytes the cells memory has.
 #[derive(Drop)]
 pub(crate) struct Case {
     pub room: usize,

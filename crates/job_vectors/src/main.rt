@@ -1,4 +1,4 @@
-// Reads jobs from standard input, one on a line in hexadecimal digits, and prints what each comes to, to be held against an independent model.
+//! Runs jobs from standard input, one to a line in hexadecimal digits, and prints their outcomes, to be compared with an independent model.
 #![tactic(auto)]
 
 mod case;

@@ -1,4 +1,4 @@
-// What is printed of one job.
+//! What is printed of one job.
 use crate::case::Case;
 use faults::report::Report;
 use job_texts::lab_text::lab_text;
@@ -22,7 +22,7 @@ fn show_fault(rt: &HostRuntime, report: &Report) -> anyhow::Result<()> {
     Ok(())
 }
 
-// How the job went, what the memory holds, and what `lab` prints for it.
+// The outcome of the job, and digests of the memory and of what `lab` prints for it.
 pub(crate) fn show(rt: &HostRuntime, case: &Case) -> anyhow::Result<()> {
     let mut cells = sevens(case.room, rt.alloc())?;
     match run_job(&case.job, &mut cells) {

@@ -1,4 +1,4 @@
--- What is read as a job is, byte for byte, the writing of it; and what is written of a job is read as it. Assumes nothing.
+-- What is read as a job is the text of that job, byte for byte; and the text of a job is read as that job. Assumes nothing.
 use Rattle.std.proofs.Common.{◌≡◌, ℕ, ◌≤◌, List, ◌∷◌, ◌++◌, length, drop, map, flat_map, true, Ok, Err, Result, IfOk, arith, refl, sym, ◌∙◌, ap, ap₂, subst}
 use Rattle.std.proofs.Math.Nat.{mul_comm}
 use Rattle.std.proofs.lemmas.Bool.{le-leb}
@@ -55,7 +55,7 @@ opened_was_at bs old new (Ok o) (Ok j) is opened = (j, job_was (length old) bs j
 pub opened_was : (bs old new : List ℕ) (r : Result Opening RecordFault) → JobOpened (job (length old) bs) bs old new r → IfOk r (λ o. (j : Job) × IsJob j bs × Opens j bs o × Filled j.lattice.cells old new)
 opened_was bs old new r opened = opened_was_at bs old new r (job (length old) bs) refl opened
 
--- what is written: board and script are their lines
+-- what is written: the lines of board and script
 module _ (l : Lattice) (rs : List Record) where
   board_lines : List (List ℕ)
   board_lines = start_content l.width l.height l.phase ∷ map row_content (rows l.width l.height l.cells)

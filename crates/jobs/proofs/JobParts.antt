@@ -53,7 +53,7 @@ module _ (k : ℕ) (bs old new rest : List ℕ) (o : Opening) (p : ℕ) (found :
   board_is : board 2 rest ≡ Ok found.0.0.lattice
   board_is = ap (board 2) (there ∙ found.2) ∙ parts.board
 
-  -- a board that was found is not refused
+  -- a board that was found is not refused when it is read
   pub not_refused : (e d : RecordFault) → BoardRead (board 2 rest) old new (Err e) → JobOpened (job k bs) bs old new (Err d)
   not_refused e d read =
       let short = subst (λ (a : Result Lattice RecordFault). BoardRead a old new (Err e)) board_is read in

@@ -52,7 +52,7 @@ pub counted : (a : Result (List Record) RecordFault) (n : ℕ) → count_of a �
 counted (Ok rs) n is = (rs, refl)
 counted (Err e) n is = absurd cc
 
--- board and script, behind the map line: from place p of the text on
+-- board and script, which come after the map line: from place p of the text on
 module _ (k : ℕ) (m : NamedMap) (p : ℕ) (bs : List ℕ) where
   pub board_not_found : (e : RecordFault) → BoardFound (board_in k (drop p bs)) (Err e) → BelowFound k m p bs (Err e)
   board_not_found e f = ap (λ a. a >>= λ l. script (script_line l) (drop (length (board_text l)) (drop p bs)) >>= λ rs. Ok (record { map = m; lattice = l; records = rs })) (not_found_at k (drop p bs) e (board_in k (drop p bs)) refl f)

@@ -1,4 +1,4 @@
--- The run of a job's records is what the job comes to. Assumes nothing.
+-- Running the records of a job gives the outcome of the job. Assumes nothing.
 use Rattle.std.proofs.Common.{◌≡◌, ℕ, ◌*◌, List, length, drop, Ok, Err, sym, ◌∙◌, ap, ap₂}
 use Rattle.std.proofs.lemmas.Bool.{eq-eqb}
 use Rattle.any_bench.specs.Scenes.{Scene}
@@ -20,7 +20,7 @@ use Rattle.jobs.specs.Outcomes.{first_scene, answer, outcome}
 use Rattle.jobs.specs.declared.done.Done.{Done}
 use Rattle.jobs.specs.declared.opening.Opening.{Opening}
 
--- the bench b is opened as the job says, and given its script
+-- the bench b is opened as the job says, and runs its script
 module _ (j : Job) (bs cs rest : List ℕ) (o : Opening) (b : Bench NamedMap) (opens : Opens j bs o) (cells : cs ≡ j.lattice.cells) (map : map_of b ≡ o.map) (start : start_of b ≡ o.start) (ledger : ledger_of b ≡ at_opening) (text : rest ≡ drop o.script_at bs) where
   lattice_is : held (start_of b) cs ≡ j.lattice
   lattice_is = ap₂ held start cells ∙ opens.start

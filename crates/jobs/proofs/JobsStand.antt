@@ -1,4 +1,4 @@
--- A job that was run leaves what the actions that stand make of its board. Assumes nothing.
+-- After a job is run, its board is held, changed by the actions that stand. Assumes nothing.
 use Rattle.std.proofs.Common.{◌≡◌, ℕ, ◌≤◌, List, length, Ok, Err, Result, IfOk, refl, sym, subst}
 use Rattle.any_bench.specs.Scenes.{Scene, after_calls}
 use Rattle.faults.specs.declared.record.RecordFault.{RecordFault}
@@ -19,7 +19,7 @@ use Rattle.jobs.specs.Laws.{IsJob, standing_board, StandsOn}
 use Rattle.jobs.specs.Outcomes.{first_scene, outcome}
 use Rattle.jobs.specs.declared.done.Done.{Done}
 
--- what is held when the records were made, before a session that is open is closed
+-- what is held once the records were made, before an open session is closed
 abbrev made : Job → Scene
 made j = after_calls (forward_of j.map) (backward_of j.map) (first_scene j) (made_of (first_refused (forward_of j.map) (backward_of j.map) (first_scene j) j.records) j.records)
 

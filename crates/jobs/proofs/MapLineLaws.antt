@@ -1,4 +1,4 @@
--- A map line that is read was written for its map, and one that is written is read as its map. Assumes nothing.
+-- A map line that is read is the one of its map, and the line of a map is read as that map. Assumes nothing.
 use Rattle.std.proofs.Common.{ap₂, ◌≡◌, ℕ, ◌<◌, Bool, true, false, cond, eqb, List, [], ◌∷◌, ◌++◌, length, Some, Ok, codes, slice_index_or, arith, refl, sym, ◌∙◌, ap}
 use Rattle.std.proofs.lemmas.Bool.{eqb-true}
 use Rattle.std.proofs.lemmas.List.{append_assoc, append-nil}
@@ -20,7 +20,7 @@ use Rattle.text.specs.Wholes.{finished}
 use Rattle.jobs.specs.Jobs.{named_at, map_at}
 use Rattle.jobs.specs.Laws.{map_line}
 
--- a map that was found by its name
+-- a map that is found by its name
 found_at : (p : NamedMap → Bool) (x : NamedMap) (xs : List NamedMap) (m : NamedMap) (yes : Bool) → p x ≡ yes → (find p xs ≡ Some m → p m ≡ true) → cond yes (Some x) (find p xs) ≡ Some m → p m ≡ true
 found_at p x xs m true e rest is = let same : x ≡ m = cc in ap p (sym same) ∙ e
 found_at p x xs m false e rest is = rest is
@@ -32,7 +32,7 @@ found p (x ∷ xs) m is = found_at p x xs m (p x) refl (found p xs m) is
 name_was : (bs : List ℕ) (m : NamedMap) → map_named bs ≡ Some m → bs ≡ name_of m
 name_was bs m is = (bytes_eq-Decides bs (name_of m)).0 (found (λ n. bytes_eq bs (name_of n)) all_maps m is)
 
--- the fields of a map line that was read
+-- the fields of a map line that is read
 argument_was : (n : ℕ) (args : List (List ℕ)) (m : NamedMap) → length args ≡ 1 → named_at n (slice_index_or args 0 []) ≡ Ok m → args ≡ name_of m ∷ []
 argument_was n [] m len is = absurd (omega arith)
 argument_was n (a ∷ b ∷ args) m len is = absurd (omega arith)

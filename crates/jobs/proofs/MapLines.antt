@@ -17,7 +17,7 @@ use Rattle.jobs.specs.Steps.{MapFound}
 abbrev pub Says : Line → Result NamedMap RecordFault → Type 0
 Says l a = (n : ℕ) (fs : List (List ℕ)) → HasFields l fs → StandsFrom l n 1 → a ≡ map_at n fs
 
--- r stands at the beginning of the text bs, and gives its first line l; it is s behind that
+-- r is at the beginning of the text bs and gives its first line l, after which it is s
 module _ (bs : List ℕ) (r : Reader) (l : Line) (s : Reader) (text : text_of r ≡ bs) (position : position_of r ≡ 0) (line : line_of r ≡ 1) (begins : fields_read_of r ≡ 0) (some : AtEnd r → ⊥) (gives : GivesLine r l s) where
   map_said : (a : Result NamedMap RecordFault) → Says l a → on_first map_at 1 (lines bs) ≡ a
   map_said a says =

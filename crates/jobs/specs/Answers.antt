@@ -1,10 +1,10 @@
--- What the calls that take jobs answer.
---     Filled cs old new            a memory of `old` then holds `new`: the cells cs, and behind them what it held
---     Opens j bs o                 o is what the job j opens with, whose text is bs. Where its script begins follows from the script's records, for they have one writing
---     JobOpened a bs old new r     r is what opening the job a answers, whose text is bs; a memory of `old` then holds `new`
---     JobTold j r                  r is what running the job j answers
---     JobMade j cs r               the same, and the cells are cs then
---     JobRun a old new r           r is what running the job a answers, and a memory of `old` then holds `new`
+-- What the calls on jobs return.
+--     Filled cs old new            the memory goes from `old` to `new`: it begins with the cells cs, and the bytes after them are kept
+--     Opens j bs o                 o is what the job j with the text bs opens with. Where its script begins follows from its records, which have only one text
+--     JobOpened a bs old new r     r is the result of opening the job a, whose text is bs; the cells memory goes from `old` to `new`
+--     JobTold j r                  r is the result of running the job j
+--     JobMade j cs r               r is that, and the cells are cs afterwards
+--     JobRun a old new r           r is the result of running the job a; the cells memory goes from `old` to `new`
 use Rattle.std.specs.Prelude.{◌≡◌, ℕ, ◌≤◌, List, ◌++◌, length, drop, Result, Ok, Err}
 use Rattle.faults.specs.declared.record.RecordFault.{RecordFault}
 use Rattle.faults.specs.declared.run.RunFault.{RunFault}

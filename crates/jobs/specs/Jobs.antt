@@ -1,13 +1,13 @@
--- What a text says as a job.
+-- The job that a text is.
 --     named_at n bs          the map with the name bs, which is field 2 of line n; or the fault that there is none
---     map_at n fs            the map by the fields fs of line n, or its first fault: a line with the word `map` and one field behind it
+--     map_at n fs            the map that the fields fs of line n name, or the line's first fault: it has the word `map` and one field after it
 --     Job                    a map, a lattice, and the records of a script
 --     if_room k l            the lattice l, if a memory of k bytes has room for its cells; else the fault that it is too short
---     board_in k bs          the lattice with which bs, the text from line 2 on, begins, if there is room for its cells; or the first fault
---     script_line l          the line on which a script begins behind the map line and the board of l
---     job_below k m bs       the job over the map m whose board and script are the text bs, from line 2 on; or the first fault. The script stands behind the bytes
---                            that the board is written with: each board has one writing
---     job k bs               the job that the text bs is, where the cells memory has k bytes; or the first fault
+--     board_in k bs          the lattice whose board bs, the text from line 2 on, begins with, if there is room for its cells; or the first fault
+--     script_line l          the line on which a script begins, after the map line and the board of l
+--     job_below k m bs       the job over the map m whose board and script are bs, the text from line 2 on; or the first fault. The script begins after the bytes
+--                            that the board is written as: each board has only one text
+--     job k bs               the job that the text bs is, if the cells memory has k bytes; or the first fault
 use Rattle.std.specs.Prelude.{ℕ, ◌+◌, List, [], length, drop, Result, Ok, Err, slice_index_or, ok_or, codes, nat_le, if◌then◌else◌}
 use Rattle.boards.specs.Boards.{board_text}
 use Rattle.boards.specs.Reading.{line_at, on_first, board}

@@ -1,11 +1,11 @@
--- Jobs in the words of who writes and runs them, apart from how a text is read. (Which actions stand is read off `outcome`.)
+-- Jobs in the words of those who write and run them, apart from how a text is read. (Which actions stand is read from `outcome`.)
 --     map_line m              the line that names the map m
 --     job_text j              the text of the job j: the line of its map, its board, its script
---     IsJob j bs              bs is the text of the job j: its board is within the limits, its records may come one after another, from rest to
---                             rest, their numbers have at most six digits, and bs is short enough
---     standing_board j        the board of the job j with the actions made on it, oldest first, that stand when its records were run
---     StandsOn j old new r    a memory of `old` then holds `new`, the cells of the standing board, and if r is no fault, its start record is that of this board; no session
---                             is left open
+--     IsJob j bs              bs is the text of the job j: its board is within the limits, the states permit its records in a row, from rest to rest, their
+--                             numbers have at most six digits, and bs is short enough
+--     standing_board j        the board of the job j, changed by the actions that stand after its records were run
+--     StandsOn j old new r    the cells memory goes from `old` to `new` and begins with the cells of the standing board; the start record in r, unless that is a fault, is
+--                             the one of this board; and no session is open
 use Rattle.std.specs.Prelude.{◌≡◌, ℕ, ◌≤◌, List, [], ◌∷◌, ◌++◌, length, codes, Result, IfOk}
 use Rattle.std.specs.List.{AllByRecursion}
 use Rattle.boards.specs.Boards.{board_text}

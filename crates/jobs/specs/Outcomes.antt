@@ -1,7 +1,7 @@
--- What a job comes to.
+-- The outcome of a job.
 --     first_scene j     what is held before the first record: an empty ledger, and the lattice of the job j
---     answer j          what the run of its records answers: how many were made, or the fault of the first that is refused
---     outcome j         what is held then: after all records, or after those before the first that is refused, with an open session cleared and closed
+--     answer j          the result of running its records: how many were made, or the fault of the first that is refused
+--     outcome j         what is held in the end: the records were made, or those before the first refusal, and a session that it cut short has left no flip
 use Rattle.std.specs.Prelude.{ℕ, Result, Ok}
 use Rattle.any_bench.specs.Scenes.{Scene}
 use Rattle.faults.specs.declared.run.RunFault.{RunFault}

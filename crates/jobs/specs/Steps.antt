@@ -1,9 +1,9 @@
 -- What the parts of reading a job find. Cited by inner functions alone.
 --     MapFound bs r           r is the map that the first line of bs names, and where the next line begins; or the first fault
---     ScriptFound h bs r      r is the first line of the script bs behind a board of h rows, or the first fault of the script
---     BelowFound k m p bs r   r is what looking for a job over the map m answers, whose board begins at place p of the text bs, where the cells memory has k bytes
---     JobFound k bs r         r is what looking for a job in bs answers: what it opens with, and where its board begins; or the first fault
---     OpenedOn bs o cs        o is what a job opens with, whose text is bs, and cs are the cells of its board
+--     ScriptFound h bs r      r is the number of the first line of the script bs, which comes after a board of h rows; or the first fault of the script
+--     BelowFound k m p bs r   r is the result of looking for a job over the map m whose board begins at place p of the text bs, if the cells memory has k bytes
+--     JobFound k bs r         r is the result of looking for a job in bs: what it opens with, and where its board begins; or the first fault
+--     OpenedOn bs o cs        o is what the job with the text bs opens with, and cs are the cells of its board
 use Rattle.std.specs.Prelude.{◌≡◌, ℕ, ◌+◌, ◌≤◌, List, length, drop, Result, Ok, Err}
 use Rattle.boards.specs.Reading.{on_first}
 use Rattle.faults.specs.declared.record.RecordFault.{RecordFault}

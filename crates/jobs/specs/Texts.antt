@@ -1,6 +1,6 @@
--- What is printed of a job that was made.
---     done_text n c     the word `done`, n, which is how many records were made, and of the counts c the clock, how many actions stand and how many were
---                       undone: in decimal, parted by tabs
+-- What is printed of a job whose records were all made.
+--     done_text n c     the word `done` and, each after a tab and in decimal, four numbers: n, the number of records that were made; and of the counts c
+--                       the clock, the number of actions that stand, and that of undone ones
 use Rattle.std.specs.Prelude.{List, ℕ, ℤ, ◌++◌, codes}
 use Rattle.std.specs.Fmt.{decimal, signed_decimal}
 

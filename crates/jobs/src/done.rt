@@ -1,4 +1,4 @@
-// What a job comes to whose records were all made.
+//! The outcome of a job whose records were all made.
 ghost use Rattle.std.specs.Prelude.{Some};
 ghost use Rattle.jobs.specs.Texts.{done_text};
 
@@ -6,12 +6,14 @@ use bench::bench::Counts;
 use lattice::start::Start;
 use std::fmt;
 
+/// The outcome of a job whose records were all made. It is displayed as the first line that `lab` prints, without the newline.
 #[derive(Clone, Copy, PartialEq, Eq, Debug)]
 pub struct Done {
-    // The start record of the lattice that is held.
+    /// The start record of the lattice that is held in the end.
     pub start: Start,
-    // How many records were made, and what the count call answers then.
+    /// How many records were made.
     pub made: usize,
+    /// The counts of the bench in the end.
     pub counts: Counts,
 }
 

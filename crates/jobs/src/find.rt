@@ -1,4 +1,4 @@
-// The check of a whole job, before any cell is written.
+//! Checking a whole job, before any cell is written.
 ghost use Rattle.std.specs.Prelude.{◌≡◌, ◌≤◌, IfOk, length, drop};
 ghost use Rattle.boards.specs.Answers.{BoardFound};
 ghost use Rattle.lattice.specs.Starts.{height_of};
@@ -16,7 +16,7 @@ use text::whole::check_whole;
 
 pub(crate) const BOARD_LINE: u32 = 2;
 
-// What stands from this place on.
+// The text from this place on.
 pub(crate) fn below(text: &[u8], at: usize) -> &[u8]
     requires { at ≤ length text.now }
     ensures { result.now ≡ drop at text.now }
@@ -24,7 +24,7 @@ pub(crate) fn below(text: &[u8], at: usize) -> &[u8]
     &text[at..]
 }
 
-// Looks for the board, and asks whether its cells have room.
+// Checks the board that the text begins with, and that its cells have room. Returns its start record, and its length in bytes.
 #[tactic(auto, using(crate::proofs::BoardsFound::no_room, crate::proofs::BoardsFound::board_fits, boards::proofs::RoundTrips::board_inside))]
 fn find_board(text: &[u8], room: usize) -> Result<(Start, usize), RecordFault>
     ensures found { BoardFound (board_in room text.now) result }
@@ -37,7 +37,7 @@ fn find_board(text: &[u8], room: usize) -> Result<(Start, usize), RecordFault>
     Ok((start, len))
 }
 
-// Checks the script from this place on, and answers which line is its first: it stands behind the board's line and its rows.
+// Checks the script from this place on, and returns the number of its first line, which comes after the map line, the board's line and its rows.
 #[tactic(auto, using(crate::proofs::JobsFound::counted_fault, crate::proofs::JobsFound::counted))]
 fn find_script(text: &[u8], at: usize, start: &Start) -> Result<u32, RecordFault>
     requires { at ≤ length text.now }
@@ -48,7 +48,7 @@ fn find_script(text: &[u8], at: usize, start: &Start) -> Result<u32, RecordFault
     Ok(first_line)
 }
 
-// What a job over this map opens with, if its board stands from this place on; or the first fault below the map line.
+// What a job over this map opens with, if its board begins at this place; or the first fault after the map line.
 #[tactic(auto, using(crate::proofs::JobsFound::board_not_found, crate::proofs::JobsFound::script_not_found, crate::proofs::JobsFound::found_below))]
 fn find_below(map: NamedMap, text: &[u8], at: usize, room: usize) -> Result<Opening, RecordFault>
     requires { at ≤ length text.now }

@@ -1,4 +1,4 @@
-// The run of a job.
+//! Running a job.
 ghost use Rattle.std.specs.Prelude.{◌≡◌, ◌≤◌, length};
 ghost use Rattle.jobs.specs.Answers.{Opens, JobRun, JobMade};
 ghost use Rattle.jobs.specs.Jobs.{Job, job};
@@ -30,7 +30,7 @@ fn make_job(opening: &Opening, text: &[u8], cells: &mut [u8]) -> Result<Done, Ru
     }
 }
 
-// Opens the job and makes its records, in the first cells of the memory.
+// Opens the job in the first bytes of the memory, and makes its records there.
 #[tactic(auto, using(crate::proofs::JobsRun::asks, crate::proofs::JobsRun::job_ran))]
 fn run_opened(text: &[u8], cells: &mut [u8]) -> Result<Done, RunFault>
     ensures { JobRun (job (length cells.old) text.now) cells.old cells.new result }
@@ -39,11 +39,12 @@ fn run_opened(text: &[u8], cells: &mut [u8]) -> Result<Done, RunFault>
     make_job(&opening, text, &mut cells[..opening.start.cell_count()])
 }
 
-// Runs the job on a new bench, in the first cells of the memory.
+/// Runs a job on a new bench, in the first bytes of `cells`, which may be longer than the board. Fails with the first fault of the text
+/// (`RunFault::Record`), before anything is written; or with the first refusal of a record (`RunFault::Bench`), which ends the run as in `runs::run`.
 #[tactic(auto, using(crate::proofs::JobsStand::job_stands))]
 pub fn run_job(text: &[u8], cells: &mut [u8]) -> Result<Done, RunFault>
     ensures answer { JobRun (job (length cells.old) text.now) cells.old cells.new result }
-    // what is held then is what the actions that stand make of the job's board, and no session is left open
+    // in the end the job's board is held, changed by the actions that stand, and no session is open
     ensures held { (j : Job) → IsJob j text.now → length j.lattice.cells ≤ length cells.old → StandsOn j cells.old cells.new result }
 {
     run_opened(text, cells)

@@ -1,4 +1,4 @@
-// Jobs: a map, a board and a script in one text.
+//! Jobs: texts that name a map, give a board and say what to do.
 #![tactic(auto)]
 
 pub mod done;

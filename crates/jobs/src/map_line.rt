@@ -1,4 +1,4 @@
-// The first line of a job.
+//! The first line of a job, which names its map.
 ghost use Rattle.std.specs.Prelude.{◌≡◌, ℕ, List, ok_or};
 ghost use Rattle.text.specs.FieldsOfLines.{HasFields, StandsFrom};
 ghost use Rattle.jobs.specs.Jobs.{map_at};
@@ -13,7 +13,7 @@ const MAP: &[u8] = b"map";
 
 pub(crate) const FIRST_LINE: u32 = 1;
 
-// The map that a map line names, or its first fault.
+// The map that the line names, or the first fault of the line.
 fn map_of(line: Line<'_>) -> Result<NamedMap, RecordFault>
     ensures { (n : ℕ) (fs : List (List ℕ)) → HasFields line.entry fs → StandsFrom line.entry n 1 → result ≡ map_at n fs }
 {
@@ -27,7 +27,7 @@ fn map_of(line: Line<'_>) -> Result<NamedMap, RecordFault>
     NamedMap::of(name.bytes()).ok_or(RecordFault::UnknownMap { line: at })
 }
 
-// The map of a job, and where its board begins.
+// The map of a job, and the place where its board begins.
 #[tactic(auto, using(crate::proofs::MapLines::no_map, crate::proofs::MapLines::a_map))]
 pub(crate) fn find_map(text: &[u8]) -> Result<(NamedMap, usize), RecordFault>
     ensures { MapFound text.now result }

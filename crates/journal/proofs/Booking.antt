@@ -1,4 +1,4 @@
--- An action that is booked behind those that stand. Assumes nothing.
+-- Booking an action after those that stand. Assumes nothing.
 use Rattle.std.proofs.Common.{◌≡◌, ℕ, ◌+◌, ◌<◌, ◌≤◌, List, [], ◌∷◌, ◌++◌, length, take, drop, set, sym, ap, ◌∙◌, arith, subst}
 use Rattle.std.proofs.lemmas.Grind.{take-set_at}
 use Rattle.std.proofs.lemmas.List.{length-take-le, length-drop, drop-set-add, take_more_set, length-append, take-take, take_all, drop_all}
@@ -29,15 +29,15 @@ module _ (es : List Entry) (fs : List Flip) (s u : ℕ) (inside : s + u ≤ leng
   front : All IsEntry (take s es)
   front = subst (All IsEntry) (take-take s (s + u) es (omega arith)) (All-take IsEntry s (take (s + u) es) valid)
 
-  -- each action has a place at least
+  -- each action takes at least one place
   pub fewer_than_places : s ≤ all_places (take s es)
   fewer_than_places = let len = length-take-le s es (omega arith) in omega (arith, at_least (take s es) front)
 
-  -- the entries that are used
+  -- the entries in use
   pub entries_standing : all_places (take s es) ≤ length fs → entries (take s (read_all (take (s + u) es) fs)) ≡ all_places (take s es)
   entries_standing room = ap entries (standing_read es fs s u inside) ∙ entries_read (take s es) fs room
 
-  -- e is written behind the actions that stand
+  -- e is written after the actions that stand
   module _ (e : Entry) (some : s < length es) where
     new_front : (n : ℕ) → n ≡ s + 1 → take n (set es s e) ≡ take s es ++ (e ∷ [])
     new_front n is = take-set_at es s n e is some
@@ -66,14 +66,14 @@ module _ (es : List Entry) (fs : List Flip) (s u : ℕ) (inside : s + u ≤ leng
     pub new_undone : (n : ℕ) → n ≡ s + 1 → drop (s + 1) (read_all (take n (set es s e)) fs) ≡ []
     new_undone n is = let len = new_length n is in drop_all (s + 1) _ (omega arith)
 
--- what stands has no more places than what is kept
+-- the actions that stand take no more places than all of them together
 pub standing_places : (es : List Entry) (fs : List Flip) (s u : ℕ) → s + u ≤ length es → all_places (take s es) ≤ all_places (take (s + u) es)
 standing_places es fs s u inside =
     let fewer = sum_by-take-le places (take (s + u) es) s in
     let same = ap all_places (take-take s (s + u) es (omega arith)) in
     omega arith
 
--- the actions that were undone are forgotten
+-- forgetting the actions that were undone
 module _ (es : List Entry) (fs : List Flip) (s u : ℕ) (inside : s + u ≤ length es) where
   pub forgotten_valid : All IsEntry (take (s + u) es) → All IsEntry (take (s + 0) es)
   forgotten_valid valid = subst (All IsEntry) (take-take (s + 0) (s + u) es (omega arith)) (All-take IsEntry (s + 0) (take (s + u) es) valid)
@@ -90,7 +90,7 @@ module _ (es : List Entry) (fs : List Flip) (s u : ℕ) (inside : s + u ≤ leng
   pub forgotten_undone : drop s (read_all (take (s + 0) es) fs) ≡ []
   forgotten_undone = let len = length_read_all (take (s + 0) es) fs in let count = length-take-le (s + 0) es (omega arith) in drop_all s _ (omega arith)
 
--- a flip that is written behind the places of what stands, where nothing is undone
+-- writing a flip after the places of what stands, where nothing is undone
 module _ (es : List Entry) (fs : List Flip) (s u k : ℕ) (x : Flip) (inside : s + u ≤ length es) (behind : all_places (take s es) ≤ k) where
   pub put_all : drop s (read_all (take (s + u) es) fs) ≡ [] → read_all (take (s + u) es) (set fs k x) ≡ read_all (take (s + u) es) fs
   put_all none =

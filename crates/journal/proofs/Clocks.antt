@@ -62,7 +62,7 @@ module _ (es : List Entry) (fs : List Flip) (n i : ℕ) (d : Entry) (inside : n 
       let front : All IsEntry (take (i + 1) es) = subst (All IsEntry) (take-take (i + 1) n es (omega arith)) (All-take IsEntry (i + 1) (take n es) valid) in
       omega (arith, clock_small es fs (i + 1) (omega arith) front)
 
-  -- the sum of the clock so far and the next entry's count
+  -- the clock so far and the next entry's count, added up
   module _ (c t : ℤ) (so_far : c ≡ clock_of (read_all (take i es) fs)) (next : t ≡ entry_ticks (get_or es i d)) where
     sum_is : c +ℤ t ≡ clock_of (read_all (take (i + 1) es) fs)
     sum_is = ap₂ ◌+ℤ◌ so_far next ∙ sym next_clock

@@ -1,4 +1,4 @@
--- Actions that are read off their entries and the places of these. Assumes nothing.
+-- Actions as they are read from entries and places. Assumes nothing.
 use Rattle.std.proofs.Common.{◌≡◌, ℕ, zero, suc, ◌+◌, ◌-◌, ◌≤◌, List, [], ◌∷◌, ◌++◌, length, take, drop, set, refl, sym, ap, ap₂, ◌∙◌, zero-add, arith}
 use Rattle.std.proofs.lemmas.List.{length-drop, length-take-le, drop-drop, take-set-le, drop-set-add}
 use Rattle.std.proofs.lemmas.List.Sums.{sum_by-append, sum_by-cons}
@@ -34,7 +34,7 @@ drop_read_all (suc k) (e ∷ es) fs =
     drop_read_all k es (drop (places e) fs)
     ∙ ap (read_all (drop k es)) (drop-drop (all_places (take k es)) (places e) fs ∙ ap (λ n. drop n fs) (sym (places_cons e (take k es))))
 
--- a place behind those of the actions is none of theirs
+-- a place after those of the actions belongs to none of them
 pub read_all_set : (es : List Entry) (fs : List Flip) (k : ℕ) (x : Flip) → all_places es ≤ k → read_all es (set fs k x) ≡ read_all es fs
 read_all_set [] fs k x behind = refl
 read_all_set (e ∷ es) fs k x behind =

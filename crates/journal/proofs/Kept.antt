@@ -1,4 +1,4 @@
--- Every action of a journal is one that is kept. Assumes nothing.
+-- Every action of a journal is one that it can have. Assumes nothing.
 use Rattle.std.proofs.Common.{◌+◌, ◌≤◌, List, [], ◌∷◌, length, take, drop, sym, subst, arith}
 use Rattle.std.proofs.lemmas.List.{length-take-le, length-drop, take-take}
 use Rattle.std.proofs.lemmas.List.Elements.{All-nil, All-cons, All-head, All-tail, All-take}

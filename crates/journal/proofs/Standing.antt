@@ -1,4 +1,4 @@
--- The actions that stand and those that were undone, by the entries before and behind the cut between them. Assumes nothing.
+-- The actions that stand and those that were undone, read from the entries before and after the boundary between them. Assumes nothing.
 use Rattle.std.proofs.Common.{◌≡◌, ℕ, suc, ◌+◌, ◌-◌, ◌<◌, ◌≤◌, List, [], ◌∷◌, ◌++◌, length, take, drop, get_or, sym, ap, ap₂, ◌∙◌, arith, drop-cons, subst, ℤ, unsigned_abs, w32, to_z, of_z}
 use Rattle.std.proofs.lemmas.List.{length-take-le, length-drop, take-take, drop-take, take_more, take-append-drop, get_or-take, drop-append-le, drop-drop, append-nil}
 use Rattle.std.proofs.lemmas.List.Sums.{sum_by-append}
@@ -12,7 +12,7 @@ use Rattle.journal.specs.Views.{places, all_places, read, read_all, IsEntry}
 use Rattle.journal.specs.declared.entry.Entry.{Entry}
 use Rattle.journal.specs.declared.entry.Entry.TheVariants.{Step as StepEntry, Edit as EditEntry}
 
--- the last of n entries by itself
+-- the last of n entries, taken by itself
 pub places_more : (es : List Entry) (k : ℕ) (d : Entry) → k < length es → all_places (take (k + 1) es) ≡ all_places (take k es) + places (get_or es k d)
 places_more es k d k< = ap all_places (take_more es k d k<) ∙ sum_by-append places (take k es) (get_or es k d ∷ []) ∙ omega arith
 
@@ -63,7 +63,7 @@ module _ (es : List Entry) (fs : List Flip) (s u : ℕ) (inside : s + u ≤ leng
         ∙ ap (λ n. drop (c - 1) (read_all (take n es) fs)) one
         ∙ last_read es fs (c - 1) d (omega arith)
 
-  -- the first that was undone
+  -- the action that a redo makes
   pub next_read : (d : Entry) → 0 < u → take 1 (drop s (read_all (take (s + u) es) fs)) ≡ read (get_or es s d) (drop (all_places (take s es)) fs) ∷ []
   next_read d some =
       let first : take u (drop s es) ≡ get_or es s d ∷ take (u - 1) (drop (suc s) es) =
@@ -83,11 +83,11 @@ entry_valid es n k d k< inside valid =
     let len = length-take-le n es inside in
     subst IsEntry (get_or-take n es k d k<) (valid k d (omega arith))
 
--- the number that a kept step count is read as is the count
+-- the count of a step is the number that it is read as
 pub count_read : (e : Entry) (z : ℤ) → IsEntry e → e ≡ StepEntry z → to_z w32 (of_z w32 z) ≡ z
 count_read e z valid is = let small : unsigned_abs z ≤ 10000 = (subst IsEntry is valid).1 in to_z-of_z w32 z (fits_signed_from_abs w32 z (omega arith))
 
--- what is read of an entry that is known
+-- reading an entry that is known
 pub read_step : (e : Entry) (z : ℤ) (fs : List Flip) → e ≡ StepEntry z → read e fs ≡ Step z
 read_step e z fs is = ap (λ x. read x fs) is
 
@@ -100,7 +100,7 @@ places_before es n m d some inside is =
     let one : (n - 1) + 1 ≡ n = omega arith in
     sym (ap (λ k. all_places (take k es)) (sym one) ∙ places_more es (n - 1) d (omega arith) ∙ ap (λ e. all_places (take (n - 1) es) + places e) is)
 
--- the part of the places that is lent
+-- the places that are lent
 pub part_before : (fs : List Flip) (a b m n : ℕ) → m ≡ n → a + n ≡ b → Edit (take (b - (b - m)) (drop (b - m) fs)) ≡ Edit (take n (drop a fs))
 part_before fs a b m n same ends =
     let from : b - m ≡ a = omega arith in
@@ -110,7 +110,7 @@ part_before fs a b m n same ends =
 pub part_behind : (fs : List Flip) (a m n : ℕ) → m ≡ n → Edit (take (a + m - a) (drop a fs)) ≡ Edit (take n (drop a fs))
 part_behind fs a m n same = let count : a + m - a ≡ n = omega arith in ap (λ k. Edit (take k (drop a fs))) count
 
--- the cut between what stands and what was undone, one further to the front or to the back
+-- the boundary between what stands and what was undone, moved by one action either way
 module _ (es : List Entry) (fs : List Flip) (s u : ℕ) (inside : s + u ≤ length es) where
   abbrev all : List Action
   all = read_all (take (s + u) es) fs

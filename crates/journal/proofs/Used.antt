@@ -1,4 +1,4 @@
--- The places that a journal has used are the entries of what stands. Assumes nothing.
+-- There are as many places in use as entries of what stands. Assumes nothing.
 use Rattle.std.proofs.Common.{◌≡◌, ◌-◌, ◌+◌, ◌<◌, ◌≤◌, [], length, sym, ap, ◌∙◌, arith}
 use Rattle.std.proofs.lemmas.List.{length-drop}
 use Rattle.journal.proofs.Booking.{standing_places, has_place, entries_standing, fewer_than_places}
@@ -30,7 +30,7 @@ standing_room j =
     let p = j.counted in
     omega (arith, used_is j, standing_places j.entries j.flips j.standing j.undone (omega arith))
 
--- the places behind those of what stands
+-- the places after those of what stands
 pub places_left : (j : Journal) → length (places_of j) ≡ 256 - entries (standing_of j)
 places_left j = let s = j.sizes in length-drop (entries (standing_of j)) j.flips ∙ omega arith
 

@@ -1,5 +1,5 @@
--- The actions that are left to go through, from the last to the first.
---     left_of b     those that are left of b, oldest first
+-- The actions that are left to go through.
+--     left_of b     those that b has left, the earliest first
 use Rattle.std.specs.Prelude.{List, take}
 use Rattle.actions.specs.Actions.{Action}
 use Rattle.journal.specs.Journals.{standing_of}

@@ -1,7 +1,7 @@
 -- The actions of a journal.
---     standing_of j     those that stand, oldest first
---     undone_of j       those that were undone, next to redo first
---     places_of j       the places behind those of what stands
+--     standing_of j     those that stand, the earliest first
+--     undone_of j       those that were undone, the one undone last first
+--     places_of j       the free places: those after the places of what stands
 use Rattle.std.specs.Prelude.{◌+◌, List, take, drop}
 use Rattle.actions.specs.Actions.{Action}
 use Rattle.actions.specs.declared.flip.Flip.{Flip}

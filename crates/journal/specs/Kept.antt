@@ -1,4 +1,4 @@
--- The actions that a journal keeps. Cited by inner functions alone.
+-- The actions that a journal can have. Cited by inner functions alone.
 --     IsKept a     the action a is one: a step by an accepted count, or an edit that has a flip
 use Rattle.std.specs.Prelude.{◌<◌, ◌≤◌, length, unsigned_abs}
 use Rattle.actions.specs.Actions.{Action, Step, Edit}

@@ -1,6 +1,6 @@
 -- The journal of a bench in session.
---     open_standing j     the actions that stand, oldest first
---     session_of j        the flips of the open session
+--     open_standing j     the actions that stand, the earliest first
+--     session_of j        the flips that the session has so far, the first one first
 use Rattle.std.specs.Prelude.{List, take}
 use Rattle.actions.specs.Actions.{Action}
 use Rattle.actions.specs.declared.flip.Flip.{Flip}

@@ -1,11 +1,11 @@
--- What a journal says, read off its two arrays: the actions, and the places of their entries. A step has one place, which is not used, and an edit
--- one for each of its flips.
---     places e            how many places the action e has
+-- What a journal says, read from its two arrays: the actions, and the places of their entries. A step takes one place, which stays unused, and an edit
+-- takes one for each of its flips.
+--     places e            how many places the action e takes
 --     entry_ticks e       what it adds to the clock
---     all_places es       how many the actions es have
+--     all_places es       how many places the actions es take
 --     read e fs           the action e, if its places are the first of fs
 --     amount e            the size of its count: how far a step goes, how many flips an edit has
---     IsEntry e           its count can be one. An edit has at most 256 flips anyhow
+--     IsEntry e           its count is in range. (The places limit an edit further, to 256 flips)
 --     read_all es fs      the actions es, if their places are the first of fs
 use Rattle.std.specs.Prelude.{ℕ, ◌<◌, ◌≤◌, List, [], ◌∷◌, take, drop, sum_by, ℤ, pos, unsigned_abs}
 use Rattle.actions.specs.Actions.{Action, Step, Edit}

@@ -1,4 +1,4 @@
-// The actions that stand, from the last to the first.
+//! The actions that stand, from the last to the first.
 ghost use Rattle.std.specs.Prelude.{◌≡◌, ◌≤◌, take};
 ghost use Rattle.journal.specs.Views.{all_places};
 
@@ -6,11 +6,13 @@ use crate::entry::Entry;
 use crate::journal::Journal;
 use actions::action::ActionRef;
 
-// `count` actions are left; their entries have the first `end` places.
+/// Goes through the standing actions of a journal, the last one first.
 #[derive(Clone, Copy)]
 pub struct Backwards<'j> {
     pub(crate) journal: &'j Journal,
+    // how many actions are left
     pub(crate) count: usize,
+    // how many places their entries take
     pub(crate) end: usize,
     ghost inside: { count ≤ journal.now.standing },
     ghost places: { end ≡ all_places (take count journal.now.entries) },
@@ -22,6 +24,7 @@ impl<'j> Backwards<'j> {
     ghost use Rattle.journal.specs.Backwards.{left_of};
     ghost use Rattle.journal.specs.Journals.{standing_of};
 
+    /// Starts with all actions that stand.
     pub fn new(journal: &'j Journal) -> Backwards<'j>
         ensures { left_of result ≡ standing_of journal.now }
     {
@@ -32,7 +35,7 @@ impl<'j> Backwards<'j> {
         }
     }
 
-    // The last of the actions that are left.
+    /// Returns the last of the actions that are left, or `None` if none is left.
     pub fn next(&mut self) -> Option<ActionRef<'j>>
         ensures given { map action_of (option_to_list result) ≡ drop (length (left_of self.old) - 1) (left_of self.old) }
         ensures left { left_of self.new ≡ take (length (left_of self.old) - 1) (left_of self.old) }

@@ -1,16 +1,18 @@
-// How an action is kept.
+//! An action as it is stored.
 ghost use Rattle.std.specs.Prelude.{◌≡◌};
 ghost use Rattle.journal.specs.Views.{places, entry_ticks};
 
-// A step by its count, an edit by how many flips it has; the flips themselves stand elsewhere.
+/// A step or an edit. The flips of an edit are stored apart from it.
 #[derive(Clone, Copy)]
 pub enum Entry {
+    /// A step by this count, which is negative for a step back.
     Step(i32),
+    /// An edit with so many flips.
     Edit(u16),
 }
 
 impl Entry {
-    // How many places it has.
+    /// How many of the journal's entries the action takes.
     pub fn places(self) -> usize
         ensures { result ≡ places self }
     {
@@ -20,7 +22,7 @@ impl Entry {
         }
     }
 
-    // What it adds to the clock.
+    /// What the action adds to the clock.
     pub fn ticks(self) -> i32
         ensures { result ≡ entry_ticks self }
     {

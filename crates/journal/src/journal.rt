@@ -1,4 +1,4 @@
-// The journal of a bench at rest.
+//! The journal of a bench at rest.
 ghost use Rattle.std.specs.Prelude.{◌≡◌, ◌+◌, ◌<◌, ◌≤◌, length, take};
 ghost use Rattle.std.specs.List.{All};
 ghost use Rattle.ledger.specs.Ledgers.{clock_of};
@@ -20,14 +20,15 @@ const NO_FLIP: Flip = Flip {
     mask: 0,
 };
 
-// First come the actions that stand, and then those that were undone.
+/// The actions that stand and those that were undone. It has a fixed size and never allocates.
 #[derive(Drop)]
 pub struct Journal {
+    // the actions that stand come first, then those that were undone
     pub(crate) entries: [Entry; MAX_ENTRIES],
     pub(crate) flips: [Flip; MAX_ENTRIES],
     pub(crate) standing: usize,
     undone: usize,
-    // Places that are taken by what stands.
+    // how many places the actions that stand take
     pub(crate) used: usize,
     ghost sizes: { (length entries ≡ 256) × (length flips ≡ 256) × (standing + undone ≤ 256) },
     ghost valid: { All IsEntry (take (standing + undone) entries) },
@@ -42,7 +43,7 @@ impl Journal {
     ghost use Rattle.ledger.specs.Ledgers.{entries};
     ghost use Rattle.ledger.specs.Refusals.{max_clock, step_refusal, if_accepted};
 
-    // Nothing stands, and nothing was undone.
+    /// A journal without any action.
     pub fn new() -> Journal
         ensures standing { standing_of result ≡ [] }
         ensures undone { undone_of result ≡ [] }
@@ -56,21 +57,21 @@ impl Journal {
         }
     }
 
-    // How many actions stand.
+    /// How many actions stand.
     pub fn standing(&self) -> usize
         ensures { result ≡ length (standing_of self.now) }
     {
         self.standing
     }
 
-    // How many actions were undone.
+    /// How many actions were undone and can be redone.
     pub fn undone(&self) -> usize
         ensures { result ≡ length (undone_of self.now) }
     {
         self.undone
     }
 
-    // The counts of the steps that stand, added up.
+    /// The clock: the counts of the steps that stand, added up.
     pub fn clock(&self) -> i32
         ensures sum { result ≡ clock_of (standing_of self.now) }
         ensures within { unsigned_abs result ≤ max_clock }
@@ -82,14 +83,14 @@ impl Journal {
         clock
     }
 
-    // The latest action that stands.
+    /// Returns the last action that stands, or `None` if none stands.
     pub fn last(&self) -> Option<ActionRef<'_>>
         ensures { map action_of (option_to_list result) ≡ drop (length (standing_of self.now) - 1) (standing_of self.now) }
     {
         Backwards::new(self).next()
     }
 
-    // The undone action that a redo makes.
+    /// Returns the action that a redo makes, or `None` if none was undone.
     pub fn next(&self) -> Option<ActionRef<'_>>
         ensures { map action_of (option_to_list result) ≡ take 1 (undone_of self.now) }
     {
@@ -104,7 +105,7 @@ impl Journal {
         })
     }
 
-    // The latest action that stands is now undone.
+    /// Moves the last action that stands to the undone ones. Does nothing if none stands.
     pub fn step_back(&mut self)
         ensures standing { standing_of self.new ≡ take (length (standing_of self.old) - 1) (standing_of self.old) }
         ensures undone { undone_of self.new ≡ drop (length (standing_of self.old) - 1) (standing_of self.old) ++ undone_of self.old }
@@ -117,7 +118,7 @@ impl Journal {
         self.undone += 1;
     }
 
-    // The first undone action stands again.
+    /// Moves the action that a redo makes back to those that stand. Does nothing if none was undone.
     pub fn step_on(&mut self)
         ensures standing { standing_of self.new ≡ standing_of self.old ++ take 1 (undone_of self.old) }
         ensures undone { undone_of self.new ≡ drop 1 (undone_of self.old) }
@@ -130,7 +131,7 @@ impl Journal {
         self.undone -= 1;
     }
 
-    // Nothing is undone any more.
+    /// Forgets the actions that were undone.
     pub fn forget_undone(&mut self)
         ensures standing { standing_of self.new ≡ standing_of self.old }
         ensures undone { undone_of self.new ≡ [] }
@@ -138,7 +139,7 @@ impl Journal {
         self.undone = 0;
     }
 
-    // A step stands, and nothing is undone any more.
+    /// Adds a step, and forgets what was undone. Refused with `StepCount`, then with `JournalFull`.
     pub fn book_step(&mut self, count: i32) -> Result<(), BenchRefusal>
         ensures answer { result ≡ unless (step_refusal count (entries (standing_of self.old))) tt }
         ensures standing { standing_of self.new ≡ if_accepted (step_refusal count (entries (standing_of self.old))) (standing_of self.old ++ (Step count ∷ [])) (standing_of self.old) }
@@ -155,14 +156,14 @@ impl Journal {
         Ok(())
     }
 
-    // How many entries stand.
+    // How many entries the actions that stand take.
     pub(crate) fn used(&self) -> usize
         ensures { result ≡ entries (standing_of self.now) }
     {
         self.used
     }
 
-    // The entry stands, with the places behind those that are used.
+    // Adds an action. If it is an edit, its flips are already in the first free places.
     pub(crate) fn push(&mut self, entry: Entry)
         requires valid { IsEntry entry }
         requires room { entries (standing_of self.old) + places entry ≤ 256 }
@@ -175,7 +176,7 @@ impl Journal {
         self.standing += 1;
     }
 
-    // So many of the places behind those that are used.
+    // The first `count` of the free places.
     pub(crate) fn places(&self, count: usize) -> &[Flip]
         requires { entries (standing_of self.now) + count ≤ 256 }
         ensures { result.now ≡ take count (places_of self.now) }
@@ -184,7 +185,7 @@ impl Journal {
         &self.flips[used..used + count]
     }
 
-    // Writes a flip to the place `at` behind those that are used.
+    // Writes a flip to the free place `at`, counted from 0.
     pub(crate) fn put(&mut self, at: usize, flip: Flip)
         requires room { entries (standing_of self.old) + at < 256 }
         requires nothing_undone { undone_of self.old ≡ [] }

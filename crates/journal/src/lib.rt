@@ -1,4 +1,4 @@
-// The journal of a bench: what its ledger says, in memory of fixed size.
+//! The journal of a bench: the actions of its ledger, in memory of fixed size.
 #![tactic(auto)]
 
 pub mod backwards;

@@ -1,4 +1,4 @@
-// Reads a job from standard input and prints what it came to.
+//! Runs the job on standard input, and prints its outcome.
 #![tactic(auto)]
 
 ghost use Rattle.std.specs.Prelude.{IfOk, IfSome};
@@ -11,7 +11,7 @@ use std::alloc::Global;
 use std::io;
 use std::io::{Read, Write};
 
-// Reads a job and writes all that is printed for it, and nothing else.
+// Reads a job, and writes what is printed for it and nothing else.
 fn carry<R: Read + Drop, W: Write>(input: R, output: &mut W, heap: Global) -> anyhow::Result<()>
     ensures { IfOk result (λ _. IfSome (R.remaining input) (λ job. Appends (W.contents output.old) (W.contents output.new) (lab_text job))) }
 {

@@ -11,12 +11,12 @@ use Rattle.ledger.specs.Ledgers.{Ledger}
 use Rattle.ledger.specs.Refusals.{is_step_count, if_room, step_refusal, own_refusal, takes_cells, refusal, if_accepted}
 use Rattle.scripts.specs.declared.record.Record.{Record}
 
--- by whether there is a refusal
+-- by cases: there is a refusal, or there is none
 pub by_acceptance : {A : Type 0} (P : A → Type 0) (e : Option BenchRefusal) (x y : A) → (e ≡ None → P x) → P y → P (if_accepted e x y)
 by_acceptance P None x y yes' no' = yes' refl
 by_acceptance P (Some e) x y yes' no' = no'
 
--- a test that lets through
+-- a test that is passed
 passes : (b : Bool) (d : Option BenchRefusal) (e : BenchRefusal) → cond b d (Some e) ≡ None → (b ≡ true) × (d ≡ None)
 passes true d e h = (refl, h)
 passes false d e h = absurd cc
@@ -48,7 +48,7 @@ flip_accepted w h c r m k e = here (flip_refusal w h c r m) refl e
         let y = t.1 in
         (grind (arith, nat_tests), grind (arith, nat_tests), grind (arith, nat_tests), grind (arith, nat_tests), room_left k room')
 
--- a call that takes cells was handed as many as the lattice has, and it is not refused for anything else
+-- a call that needs cells and is accepted got as many as the lattice has, and no other cause applies to it
 pub cells_accepted : (w h n : ℕ) (c : Record) (led : Ledger) → takes_cells c ≡ true → refusal w h n c led ≡ None → (n ≡ w * h) × (own_refusal w h c led ≡ None)
 cells_accepted w h n c led takes e = here (n == w * h) refl (rw takes at e)
   where
@@ -56,7 +56,7 @@ cells_accepted w h n c led takes e = here (n == w * h) refl (rw takes at e)
     here true is e = (eqb-true n (w * h) is, e)
     here false is e = absurd cc
 
--- and the other way round
+-- the converse
 pub room_refusal : (k : ℕ) → k < 256 → if_room k ≡ None
 room_refusal k h = rw (lt-ltb k 256 h) refl
 
@@ -68,7 +68,7 @@ flip_taken w h c r m k c< r< some small room =
     let mask : m ≤ 255 = omega arith in
     rw (lt-ltb c w c<, lt-ltb r h r<, lt-ltb 0 m some, le-leb m 255 mask, lt-ltb k 256 room) refl
 
--- a call that is handed the cells of the lattice is refused for its own causes alone
+-- a call that is passed the cells of the lattice is refused only for causes of its own
 pub whole_refusal : (w h : ℕ) (c : Record) (led : Ledger) → refusal w h (w * h) c led ≡ own_refusal w h c led
 whole_refusal w h c led = rw (eq-eqb (w * h) (w * h) refl) (here (takes_cells c) (own_refusal w h c led))
   where

@@ -1,4 +1,4 @@
--- What a bench holds is what its ledger says: each call keeps it so. Assumes nothing.
+-- A bench holds what its ledger says, and each call keeps it so. Assumes nothing.
 use Rattle.std.proofs.Common.{◌≡◌, ℕ, ◌-◌, true, List, [], ◌∷◌, ◌++◌, length, take, Some, None, Option, refl, sym, ap, ◌∙◌}
 use Rattle.std.proofs.lemmas.List.{take-append-drop}
 use Rattle.std.proofs.lemmas.List.Elements.{All-weaker, All-drop, All-take}
@@ -46,7 +46,7 @@ module _ (f g : Lattice → Lattice) (laws : Reversible f g) (w h : ℕ) where
   standing_within led l s i = all_flipped_within led.session (all_made f g led.standing l) (All-weaker (FlipOn w h) ByteMask (flip_mask w h) led.session s.session)
       (all_made_within f g laws led.standing l (byte_masks w h led.standing s.standing) i)
 
-  -- a call that is accepted leads from what the ledger before it says to what the ledger after it says
+  -- an accepted call leads from what the ledger says before it to what the ledger says after it
   pub effect_held : (c : Record) (led : Ledger) (l : Lattice) → permits led.state (kind_of c) ≡ true → Sound w h led → Within l
       → effect f g c led (standing_for f g led l) ≡ standing_for f g (booked c led) l
   effect_held (Call.Step z) led l may s i =
@@ -71,7 +71,7 @@ module _ (f g : Lattice → Lattice) (laws : Reversible f g) (w h : ℕ) where
   effect_held Call.Clear led l may s i = all_flipped_back led.session (all_made f g led.standing l)
   effect_held Call.Close led l may s i = sym (all_made_append led.standing (edit_of led.session) l ∙ edit_made led.session (all_made f g led.standing l))
 
-  -- so does any call, whether it is accepted or not
+  -- so does any call, accepted or not
   pub moved_held : (c : Record) (led : Ledger) (l : Lattice) → permits led.state (kind_of c) ≡ true → Sound w h led → Within l → (e : Option BenchRefusal)
       → if_accepted e (effect f g c led (standing_for f g led l)) (standing_for f g led l) ≡ standing_for f g (if_accepted e (booked c led) led) l
   moved_held c led l may s i None = effect_held c led l may s i

@@ -1,4 +1,4 @@
--- The actions that lead home are as many as those that led away, and their clock is the opposite. Assumes nothing.
+-- The actions that undo others are as many as those, and their clock is the opposite. Assumes nothing.
 use Rattle.std.proofs.Common.{◌≡◌, ℕ, ℤ, pos, neg_ℤ, List, [], ◌∷◌, length, reverse, fold, refl, sym, ap, ap₂, ◌∙◌, subst, arith}
 use Rattle.std.proofs.Math.IntN.{neg_ℤ-+ℤ, +ℤ_assoc, +ℤ_comm, +ℤ_idl, +ℤ_idr}
 use Rattle.std.specs.Prelude.{◌+ℤ◌}
@@ -29,7 +29,7 @@ home_entries (a ∷ acts) =
     let rest = home_entries acts in
     ap entries (home_cons a acts) ∙ there ∙ omega arith
 
--- the clock may be added up from any number on
+-- the clock can be added up from any start
 sum_from : (t : ℤ) (acts : List Action) → fold (λ s a. s +ℤ ticks a) t acts ≡ t +ℤ clock_of acts
 sum_from t [] = sym (+ℤ_idr t)
 sum_from t (a ∷ acts) =

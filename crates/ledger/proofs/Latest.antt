@@ -1,4 +1,4 @@
--- Where there is no latest action, none stands. Assumes nothing.
+-- If there is no latest action, no action stands. Assumes nothing.
 use Rattle.std.proofs.Common.{◌≡◌, ◌-◌, List, [], length, drop, ap, arith}
 use Rattle.std.proofs.lemmas.List.{length-drop}
 

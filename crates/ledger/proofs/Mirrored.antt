@@ -93,7 +93,7 @@ edit_mirrored : (fs : List Flip) → map mirror_action (edit_of fs) ≡ edit_of 
 edit_mirrored [] = refl
 edit_mirrored (f ∷ fs) = refl
 
--- a call is refused by both for the same cause
+-- both refuse a call for the same cause
 own_mirrored : (w h : ℕ) (c : Record) (led : Ledger) → own_refusal w h (mirror_call c) (mirrored led) ≡ own_refusal w h c led
 own_mirrored w h (Call.Step z) led = rw (abs_opposite z, same_entries led.standing) refl
 own_mirrored w h Call.Undo led = rw (length-map led.standing mirror_action) refl
@@ -127,7 +127,7 @@ refusal_mirrored w h n c led = ap₂ (λ t o. cond (t && not (n == w * h)) (Some
 abbrev made_of : List Action → List Action → List Flip → State → Ledger
 made_of s u q st = record { standing = s; undone = u; session = q; state = st }
 
--- and booked by both
+-- and book it alike
 booked_mirrored : (w h n : ℕ) (c : Record) (led : Ledger) → refusal w h n c led ≡ None → booked (mirror_call c) (mirrored led) ≡ mirrored (booked c led)
 booked_mirrored w h n (Call.Step z) led e =
     let ok = step_accepted z (used led) (cells_accepted w h n (Call.Step z) led refl e).1 in

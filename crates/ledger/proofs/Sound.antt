@@ -1,7 +1,7 @@
--- What every ledger of a life keeps, on a lattice with the sides w and h. Assumes nothing.
---     FlipOn w h f       the flip f is one that is accepted
---     ActionOn w h a     so are the count of a step, and the flips of an edit, which has some
---     Sound w h led      all that is booked is such, the entries have room, and only one of the undone actions and the open session has any
+-- What holds of every ledger of a life, on a lattice with w columns and h rows. Assumes nothing.
+--     FlipOn w h f       the flip f would be accepted
+--     ActionOn w h a     so would the action a: the count of its step, or the flips of its edit, which has some
+--     Sound w h led      all its flips and actions are such, there is room for their entries, and it does not have both undone actions and pending flips
 use Rattle.std.proofs.Common.{◌≡◌, ℕ, ◌+◌, ◌-◌, ◌<◌, ◌≤◌, true, false, List, [], ◌∷◌, ◌++◌, length, take, None, refl, ap, ◌∙◌, arith, unsigned_abs}
 use Rattle.std.proofs.lemmas.List.{length-append}
 use Rattle.std.proofs.lemmas.List.Elements.{All-nil, All-cons, All-push, All-append, All-take, All-drop}
@@ -57,7 +57,7 @@ edit_on : (w h : ℕ) (fs : List Flip) → All (FlipOn w h) fs → All (ActionOn
 edit_on w h [] on = All-nil (ActionOn w h)
 edit_on w h (f ∷ fs) on = All-cons (ActionOn w h) (Edit (f ∷ fs)) [] (on, omega arith) (All-nil (ActionOn w h))
 
--- a call that is not permitted in the other state
+-- a call that the other state does not permit
 pub is_rest : (k : Word) (s : State) → permits Session k ≡ false → permits s k ≡ true → s ≡ Rest
 is_rest k Rest other may = refl
 is_rest k Session other may = absurd cc

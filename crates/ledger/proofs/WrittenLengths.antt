@@ -1,4 +1,4 @@
--- How long the lines of the steps and flips are that a bench accepts. Assumes nothing.
+-- How long the script lines of the steps and flips are that a bench accepts. Assumes nothing.
 use Rattle.std.proofs.Common.{ℕ, ◌≤◌, ℤ, pos, negsuc, suc, [], ◌∷◌, length, unsigned_abs, arith}
 use Rattle.std.proofs.lemmas.Fmt.{length-decimal-le}
 use Rattle.std.proofs.lemmas.List.{length-append}

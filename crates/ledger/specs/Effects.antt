@@ -1,7 +1,7 @@
 -- What the calls do to a lattice. Here f and g are the two functions of a map.
 --     effect f g c led l    l after the call c, if that is accepted
---     standing_for f g led l    what a bench with the ledger led holds, if l is the lattice of its opening: the actions that stand are made, oldest first,
---                               and then the flips of the open session
+--     standing_for f g led l    what a bench with the ledger led holds, if it was opened on l: l after the actions that stand, the earliest first,
+--                               and then after the flips pending in the session
 use Rattle.std.specs.Prelude.{take, reverse}
 use Rattle.actions.specs.Actions.{moved, all_made, home_of}
 use Rattle.actions.specs.Flips.{flipped, all_flipped}

@@ -1,7 +1,7 @@
--- The way home, as records.
+-- The way back to the opening lattice, as records.
 --     flip_record f         the record of the flip f
---     making a              the records that make the action a: a step; or a session with its flips, which is closed
---     home_records acts     the records that lead home from where the actions acts have led: the last of them is taken back first
+--     making a              the records that make the action a: one step, or a whole session for an edit
+--     home_records acts     the records that undo the actions acts, the last one first
 --     home_script acts      their text
 use Rattle.std.specs.Prelude.{ℕ, List, [], ◌∷◌, ◌++◌, map, flat_map}
 use Rattle.actions.specs.Actions.{Action, Step as StepAction, Edit as EditAction, home_of}

@@ -1,14 +1,14 @@
--- The ledger: what a bench remembers, as lists of actions.
---     Ledger           the actions that stand, oldest first; those that were undone, next to redo first; the flips of the open session; the state
+-- The ledger: the bookkeeping of a bench, as lists of actions. A flip is pending until its session is closed, which makes it part of an edit.
+--     Ledger           the actions that stand, the earliest first; those that were undone, the one undone last first; the pending flips; the state
 --     at_opening       the ledger of a bench that was just opened
 --     size a           how many entries the action a takes
---     entries acts     how many entries the actions take: one for a step, one for each flip
---     used led         how many entries stand, the open session's with them
+--     entries acts     how many entries the actions acts take: one for a step, one for each flip
+--     used led         how many entries are in use, those of the pending flips included
 --     ticks a          what the action a adds to the clock
---     clock_of acts    the counts of the steps, added up
---     counts led p     what the count call answers where the phase is p: actions standing, actions undone, clock, phase
---     edit_of fs       the flips fs as an edit; none where there is no flip
---     earlier led, latest led     all but the last action that stands; the last, as a list
+--     clock_of acts    the clock after the actions acts: the counts of their steps, added up
+--     counts led p     the result of the count call where the phase is p: actions standing, actions undone, clock, phase
+--     edit_of fs       the flips fs as an edit; no action where there is no flip
+--     earlier led, latest led     the actions that stand, without the last one; the last one, as a list
 --     booked c led     the ledger after the call c, if that is accepted
 use Rattle.std.specs.Prelude.{ℕ, ◌+◌, ◌-◌, List, [], ◌∷◌, ◌++◌, length, take, drop, fold, sum_by, ℤ, pos, ◌+ℤ◌}
 use Rattle.actions.specs.Actions.{Action, Step, Edit}

@@ -1,6 +1,6 @@
--- The mirror of a bench: it stands over the reversed map and is given the same calls, but with the opposite step counts.
---     opposite z        -z, as a number of 32 bits: the least of them has no opposite, and stays as it is
---     mirror_call c     the call that the mirror is given where the bench is given c
+-- The mirror of a bench: a bench over the reversed map, with the same calls but the opposite step counts.
+--     opposite z        -z, within 32 bits: the least number has no opposite there, and stays as it is
+--     mirror_call c     the call that the mirror gets where the bench gets c
 use Rattle.std.specs.Prelude.{◌^◌, ℤ, neg_ℤ, nat_lt, unsigned_abs, if◌then◌else◌}
 use Rattle.scripts.specs.declared.record.Record.{Record}
 use Rattle.scripts.specs.declared.record.Record.TheVariants.{Step}

@@ -1,17 +1,17 @@
--- Which calls are refused. The sides of the lattice are w and h; a call that takes cells is handed n of them.
+-- Which calls are refused. The lattice has w columns and h rows, and n cells are passed to a call that needs cells.
 --     max_entries               how many entries a journal has room for
 --     max_step                  the largest count of a step, either way
---     max_clock                 how far the clock can go, either way
---     is_step_count z           z can be the count of a step
---     if_room k                 no refusal, where fewer than max_entries entries are used; k are
---     step_refusal z k          why a step by z is refused where k entries are used
+--     max_clock                 how far from 0 the clock can be, either way
+--     is_step_count z           whether z is in the range of step counts
+--     if_room k                 no refusal as long as k, the entries in use, are fewer than max_entries
+--     step_refusal z k          why a step by z is refused while k entries are in use
 --     if_none k e               the refusal e, if k is 0
---     own_refusal w h c led     why the call c is refused, if it is not for the cells that it is handed
---     takes_cells c             the call c is handed cells
---     refusal w h n c led       the first cause for which the call c is refused, if there is one
+--     own_refusal w h c led     why the call c is refused, apart from the cells that are passed to it
+--     takes_cells c             whether the call c needs cells
+--     refusal w h n c led       why the call c is refused: the first cause, or none
 --     if_accepted e x y         x if there is no refusal e, and y if there is
---     answer w h n c led        what the call c answers: how many actions stand then, or why it is refused
---     after w h n c led         the ledger after the call c: a refused call leaves it as it was
+--     answer w h n c led        the result of the call c: how many actions stand after it, or why it is refused
+--     after w h n c led         the ledger after the call c; a refusal leaves it as it was
 use Rattle.std.specs.Prelude.{ℕ, ◌*◌, ◌==◌, ◌&&◌, Bool, true, false, not, length, ℤ, Option, Some, None, Result, nat_lt, nat_le, unsigned_abs, if◌then◌else◌}
 use Rattle.std.specs.Option.{option_or}
 use Rattle.actions.specs.Answers.{unless}

@@ -1,2 +1,2 @@
-// The ledger of a bench: what it holds by the calls that were made, and nothing of how it keeps it. There is no code in it.
+//! The ledger of a bench: what it should hold after given calls, however it stores that. Definitions only; there is no code.
 #![tactic(auto)]

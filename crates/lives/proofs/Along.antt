@@ -1,4 +1,4 @@
--- Where a bench and its mirror stand in a life, and where one more event leads them. Assumes nothing.
+-- Where a bench and its mirror are in a life, and where one more event leads them. Assumes nothing.
 --     Along f g l n es x h y i     after the events es the bench has the ledger x and holds h, the mirror has y and holds i, as the life says
 use Rattle.std.proofs.Common.{◌≡◌, ℕ, List, [], ◌∷◌, ◌++◌, sym, ap, ap₂, ◌∙◌}
 use Rattle.lattice.specs.Lattice.{Lattice, Within}
@@ -38,7 +38,7 @@ module _ (f g : Lattice → Lattice) (laws : Reversible f g) (l : Lattice) (insi
       ap₂ (λ u m. counts u m.phase) along_more.image_ledger along_more.image_lattice
       ∙ mirror_counts (life_ledger l n (es ++ (e ∷ []))) (life_lattice f g l n (es ++ (e ∷ []))).phase
 
-  -- what both tell
+  -- what both report
   pub seen_more : (s : Seen) → s.bench.answer ≡ event_told h.width h.height n e x → s.bench.counts ≡ counts x' h'.phase
       → s.mirror.answer ≡ event_told i.width i.height n (mirror_event e) y → s.mirror.counts ≡ counts y' i'.phase → s ≡ seen_after f g l n es e
   seen_more s a c b d =

@@ -1,4 +1,4 @@
--- A call that is handed a memory of another length changes nothing. Assumes nothing.
+-- A call whose memory is too long or too short changes nothing. Assumes nothing.
 use Rattle.std.proofs.Common.{◌≡◌, ℕ, ◌*◌, min, Bool, true, false, cond, List, length, Some, refl, sym, ap, ◌∙◌}
 use Rattle.std.proofs.lemmas.Bool.{ne_eqb}
 use Rattle.any_bench.specs.Calls.{booked_if, made_if}
@@ -34,11 +34,11 @@ module _ (l : Lattice) (c : Record) (led : Ledger) (takes : takes_cells c ≡ tr
       ap (λ e. cond (permits led.state (kind_of c)) (if_accepted e (effect f g c led l) l) l) (refused_cells l.width l.height (length l.cells) c led takes other)
       ∙ same (permits led.state (kind_of c)) l
 
--- of two start records that hold the same lattice with some cells
+-- two start records that make the same lattice of some cells do so of all
 pub same_held : (s t : Start) (cs ds : List ℕ) → held s cs ≡ held t ds → (es : List ℕ) → held s es ≡ held t es
 same_held s t cs ds is es = ap (λ l. with_cells l es) is
 
--- nor does an event that hands such a memory
+-- nor does an event with such a memory
 pub event_elsewhere : (f g : Lattice → Lattice) (n : ℕ) (e : Event) (led : Ledger) (l : Lattice) → takes_cells e.call ≡ true → (lent_cells l.width l.height n e ≡ l.width * l.height → ⊥) → event_made f g n e led l ≡ l
 event_elsewhere f g n e led l takes other =
     ap (λ d. cond (is_call l.width l.height n e led) (if_accepted d (effect f g e.call led l) l) l) (refused_cells l.width l.height (lent_cells l.width l.height n e) e.call led takes other)

@@ -1,4 +1,4 @@
--- An event leads a bench and its mirror from what the ledger says to what it says then. Assumes nothing.
+-- An event leads a bench and its mirror from what their ledgers say before it to what they say after it. Assumes nothing.
 use Rattle.std.proofs.Common.{◌≡◌, ℕ, cond, List, [], ◌∷◌, ◌++◌, fold, refl, ap₂, ◌∙◌}
 use Rattle.std.proofs.lemmas.Bool.{and_parts, cond_both}
 use Rattle.std.proofs.lemmas.List.Sums.{fold_push}

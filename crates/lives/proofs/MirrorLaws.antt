@@ -1,4 +1,4 @@
--- The mirror goes along with the bench. Assumes nothing.
+-- Bench and mirror stay in step. Assumes nothing.
 use Rattle.std.proofs.Common.{◌≡◌, ℕ, ◌*◌, Bool, true, false, cond, List, [], ◌∷◌, ◌++◌, map, fold, length, neg_ℤ, refl, sym, ap, ap₂, ◌∙◌}
 use Rattle.std.proofs.lemmas.List.{length-map, map-append}
 use Rattle.std.specs.Prelude.{◌&&◌, ◌==◌, not}
@@ -70,7 +70,7 @@ module _ (f g : Lattice → Lattice) (l : Lattice) (n : ℕ) (es : List Event) (
   more : map mirror_event es ++ (mirror_event e ∷ []) ≡ map mirror_event (es ++ (e ∷ []))
   more = sym (map-append mirror_event es (e ∷ []))
 
-  -- and tells the same, with the opposite clock
+  -- and reports the same, with the opposite clock
   pub mirror_tells : told_after g f l n (map mirror_event es) (mirror_event e) ≡ of_mirror (told_after f g l n es e)
   mirror_tells =
       let a = ap (event_told l.width l.height n (mirror_event e)) (mirror_life l n es) ∙ mirror_told l.width l.height n e (life_ledger l n es) in

@@ -1,4 +1,4 @@
--- One more event of a bench and of its mirror. Assumes nothing.
+-- One more event, of a bench and of its mirror. Assumes nothing.
 use Rattle.std.proofs.Common.{◌≡◌, ℕ, List, [], ◌∷◌, ◌++◌, sym, ap, ap₂, ◌∙◌, subst}
 use Rattle.lattice.proofs.Wholes.{same_shape_whole}
 use Rattle.lattice.specs.Lattice.{Lattice, Whole, Within, SameShape}

@@ -1,4 +1,4 @@
--- One more event that is recorded. Assumes nothing.
+-- Recording one more event. Assumes nothing.
 use Rattle.std.proofs.Common.{◌≡◌, ℕ, zero, suc, ◌+◌, ◌<◌, ◌≤◌, List, [], ◌∷◌, ◌++◌, length, take, set, get_or, Some, refl, sym, ap, ap₂, ◌∙◌, arith, ⊎_elim}
 use Rattle.std.proofs.lemmas.Bool.{cases_lt, cases_eq}
 use Rattle.std.proofs.lemmas.List.{length-append, length-set, get_or-set_same, get_or-set_other, take-append-le, take_all}
@@ -10,7 +10,7 @@ use Rattle.lives.specs.Seen.{Recorded}
 use Rattle.lives.specs.declared.event.Event.{Event}
 use Rattle.lives.specs.declared.event.Seen.{Seen}
 
--- the events but the last, and the last
+-- the events before the last one, and the last one
 get_before : (es : List Event) (e : Event) (k : ℕ) → k < length es → slice_get (es ++ (e ∷ [])) k ≡ slice_get es k
 get_before [] e k k< = absurd (omega arith)
 get_before (x ∷ es) e zero k< = refl
@@ -39,7 +39,7 @@ module _ (f g : Lattice → Lattice) (l : Lattice) (n : ℕ) where
       others = λ k s behind. let a = len in so_far.others k s (omega arith);
     }
 
-    -- what is told stands at its place
+    -- the report is in its place
     pub recorded_here : length es < length now → Recorded f g l n (es ++ (e ∷ [])) old (set now (length es) (seen_after f g l n es e))
     recorded_here here = record {
       count = length-set now (length es) (seen_after f g l n es e) ∙ so_far.count;

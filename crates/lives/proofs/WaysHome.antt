@@ -1,4 +1,4 @@
--- The way back: the reverse script of what stands, run on a bench that is opened on the lattice that is held. Assumes nothing.
+-- A bench that takes over what is held and runs the reverse script returns to the opening lattice. Assumes nothing.
 use Rattle.std.proofs.Common.{◌≡◌, ℕ, ◌*◌, ◌≤◌, eqb, neg_ℤ, List, [], length, Ok, Err, sym, ap, ap₂, ◌∙◌, subst, arith}
 use Rattle.std.proofs.lemmas.Bool.{cond-true, eq-eqb}
 use Rattle.std.specs.List.{All}
@@ -65,13 +65,13 @@ module _ (f g : Lattice → Lattice) (laws : Reversible f g) (l : Lattice) (insi
   all_go : Goes f g begun (home_records led.standing) home
   all_go = actions_go f g laws here here_within here_whole (home_of led.standing) [] (home_on here.width here.height led.standing on) (sound_at_opening here.width here.height) (omega (arith, home_entries led.standing, few))
 
-  -- the run takes all records
+  -- the run makes all records
   pub home_answer : (n : ℕ) → run_answer f g begun n (home_script led.standing) ≡ Ok (length (home_records led.standing))
   home_answer n =
       ap (λ a. a >>= λ rs. answer_of n (first_refused f g begun rs) rs) (home_read n)
       ∙ ap (λ d. answer_of n d (home_records led.standing)) all_go.none
 
-  -- and comes home
+  -- and returns to the opening lattice
   no_flips : here ≡ all_made f g led.standing l
   no_flips = ap (λ q. all_flipped q (all_made f g led.standing l)) (s.at_rest rest)
 

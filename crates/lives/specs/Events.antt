@@ -1,11 +1,11 @@
--- What happens in a life, by the ledger. The sides of the lattice are w and h, and the second memory has n bytes.
---     lent_count k n t         how many bytes the lending t hands over, of k own ones or of n others
---     is_part t                t lends a part of the second memory
---     lent_cells w h n e       how many cells the event e hands to its call
---     is_call w h n e led      e is a call of the life: the state permits it, and it is not handed a part of the second memory that has as many cells as the lattice
---     event_told w h n e led   what is answered to it; what is no call is passed over, and open and close give only the bench
---     event_booked w h n e led     the ledger after it
---     event_made f g n e led l     what becomes of the lattice l that is held, where f and g are the two functions of the map
+-- What happens in a life, by the ledger. The lattice has w columns and h rows, and the memory `second` has n bytes.
+--     lent_count k n t         how many bytes a call gets that is lent t, if its bench has k cells
+--     is_part t                whether t lends bytes of `second`
+--     lent_cells w h n e       how many bytes the call of the event e gets as cells
+--     is_call w h n e led      whether e is a call of the life: the state permits it, and the cells that it needs, if any, are not w * h bytes of `second`
+--     event_told w h n e led   the answer to e: PassedOver if it is no call of the life, and Given for Open and Close
+--     event_booked w h n e led     the ledger after e
+--     event_made f g n e led l     the lattice after e, if l is held before it; f and g are the two functions of the map
 use Rattle.std.specs.Prelude.{ℕ, ◌*◌, ◌==◌, ◌&&◌, Bool, true, false, not, min, if◌then◌else◌}
 use Rattle.any_bench.specs.Answers.{said}
 use Rattle.any_bench.specs.declared.answer.Answer.{Answer}

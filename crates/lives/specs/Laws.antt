@@ -1,11 +1,11 @@
--- The law of every life. It was opened with the start record s on the cells that the memory `cells` had then; f and g are the two functions of the map, es the
--- events, and `old` and `new` the memories before and after.
---     opening s m, other m           the opening lattice, and the length of the second memory
---     SameLoan a b, SameLoans old new    b is the very memory that a was; so are all of them
---     AllWhole s m                   the cells memories of the three benches are whole
---     Lived f g s es old new o       o and the memories are what comes of the life
+-- The law of every life. It begins with the start record s and with what the memory `cells` has then; f and g are the two functions of the map, es the events,
+-- and `old` and `new` the memories before and after.
+--     opening s m, other m           the opening lattice; the length of the memory `second`
+--     SameLoan a b, SameLoans old new    a and b borrow one and the same memory; so does each field of `old` and of `new`
+--     AllWhole s m                   the cells memories of the three benches have a byte for each cell
+--     Lived f g s es old new o       the life ends with the outcome o and leaves the memories `new`
 --     Unchanged old new              no memory has changed
---     LifeIs f g s es old new r      r is what living it answers
+--     LifeIs f g s es old new r      r is the result of `live`
 use Rattle.std.specs.Prelude.{◌≡◌, ℕ, ◌*◌, List, length, map, take, Result, Ok, Err}
 use Rattle.std.specs.Borrow.{MutBor}
 use Rattle.faults.specs.declared.run.BenchRefusal.{BenchRefusal}
@@ -28,7 +28,7 @@ opening s m = held s m.cells.now
 abbrev pub other : Memories → ℕ
 other m = length m.second.now
 
--- the memories are the ones that were lent
+-- the memories are those that were lent
 abbrev pub SameLoan : {A : Type 0} → MutBor A → MutBor A → Type 0
 SameLoan old new = (new.ref_ptr ≡ old.ref_ptr) × (new.ghost_name ≡ old.ghost_name)
 
@@ -37,17 +37,17 @@ SameLoans old new =
     SameLoan old.cells new.cells × SameLoan old.mirror new.mirror × SameLoan old.home new.home × SameLoan old.second new.second × SameLoan old.script new.script × SameLoan old.seen new.seen
 
 pub record Lived (f g : Lattice → Lattice) (s : Start) (es : List Event) (old new : Memories) (o : Outcome) : Type 0 where
-  -- what is held: the actions that stand, oldest first, made on the opening lattice, with the flips of the open session on top
+  -- the lattice held is that of the opening, changed by each action that stands, the earliest first, and then by the flips pending in the session
   pub held_then : held o.start new.cells.now ≡ life_lattice f g (opening s old) (other old) es
   pub counted : o.counts ≡ counts (life_ledger (opening s old) (other old) es) (phase_of o.start)
-  -- the mirror lived the mirror's events over the reversed map, and holds the same
+  -- the mirror has a life of its own, over the reversed map and with the mirrored events, and ends up holding the same
   pub mirror : held o.mirror_start new.mirror.now ≡ life_lattice g f (opening s old) (other old) (map mirror_event es)
   pub mirror_counted : o.mirror_counts ≡ counts (life_ledger (opening s old) (other old) (map mirror_event es)) (phase_of o.mirror_start)
   pub same : held o.mirror_start new.mirror.now ≡ held o.start new.cells.now
-  -- what both told after each event: answer and counts of the ledger. The mirror told the same, with the opposite clock
+  -- after each event, bench and mirror report what their ledgers say, and that is the same except for the sign of the clock
   pub told : Recorded f g (opening s old) (other old) es old.seen.now new.seen.now
   pub alike : (k : ℕ) (e : Event) → (seen_after f g (opening s old) (other old) (take k es) e).mirror ≡ of_mirror (seen_after f g (opening s old) (other old) (take k es) e).bench
-  -- the way back: the script that takes back what stands is run to its end, and the opening lattice is there again, with the opposite clock
+  -- the third bench makes every record of the reverse script and is back at the opening lattice then; its clock has the opposite sign
   pub way_back : GoesBack f g (opening s old) (life_ledger (opening s old) (other old) es) old.script.now new.script.now old.home.now new.home.now o.way_back
   pub second : new.second.now ≡ old.second.now
   pub loans : SameLoans old new

@@ -1,10 +1,10 @@
--- A whole life, by the ledger. It begins with the opening lattice l; f and g are the two functions of the map; the second memory has n bytes; es are the
--- events so far, the first one first.
+-- A whole life, by the ledger. It begins with the lattice l; f and g are the two functions of the map; the memory `second` has n bytes; es are the events so far,
+-- in their order.
 --     life_ledger l n es          the ledger after the events
---     life_lattice f g l n es     the lattice that is held then
---     told_after f g l n es e     what the bench tells of one more event, e: its answer, and the count call's after it
---     of_mirror t                 the same told with the opposite clock
---     seen_after f g l n es e     what bench and mirror tell: the mirror has had the mirror's events, over the reversed map
+--     life_lattice f g l n es     the lattice that is held after them
+--     told_after f g l n es e     what the bench reports of one more event, e: the answer to it, and the counts afterwards
+--     of_mirror t                 the report t with the opposite clock
+--     seen_after f g l n es e     what bench and mirror report of e: the mirror has had the mirrored events, over the reversed map
 use Rattle.std.specs.Prelude.{ℕ, List, [], ◌∷◌, ◌++◌, map, fold, neg_ℤ}
 use Rattle.lattice.specs.Lattice.{Lattice}
 use Rattle.ledger.specs.Effects.{standing_for}

@@ -1,5 +1,5 @@
 -- The life of the mirror.
---     mirror_event e     the event that the mirror is given where the bench is given e
+--     mirror_event e     the event that the mirror gets where the bench gets e
 use Rattle.ledger.specs.Mirrors.{mirror_call}
 use Rattle.lives.specs.declared.event.Event.{Event}
 

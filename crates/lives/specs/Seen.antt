@@ -1,6 +1,6 @@
--- What is kept of a life.
---     Recorded f g l n es old new     a memory of `old` holds `new` after the events es: at each place what both tell of the event there, as far as there are
---                                     events and places; the other places as they were
+-- The reports that are kept of a life.
+--     Recorded f g l n es old new     in a life of the events es the memory of the reports goes from `old` to `new`: the place of each event gets what both
+--                                     report of it, as long as there are places; the other places are as they were
 use Rattle.std.specs.Prelude.{◌≡◌, ℕ, ◌<◌, ◌≤◌, List, length, take, Some, slice_get, slice_index_or}
 use Rattle.lattice.specs.Lattice.{Lattice}
 use Rattle.lives.specs.Lives.{seen_after}

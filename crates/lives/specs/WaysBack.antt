@@ -1,8 +1,8 @@
--- The way back from where a life has led. It was opened on the lattice l, and its ledger is led; f and g are the two functions of the map.
+-- The way back from where a life has led. It began with the lattice l, and its ledger is led; f and g are the two functions of the map.
 --     begun f g l led                                    a third bench, just opened on the lattice that is held
---     Home f g l led old new cells j                     j is the way back, gone to its end: a memory of `old` then holds `new`, and the third bench's cells are `cells`
---     GoesBack f g l led script script' home home' w     w is the way back, or why there is none. A memory of `script` then holds script', and the cells memory of
---                                                        the third bench, which held `home`, holds home'
+--     Home f g l led old new cells j                     j is the way back; the memory of the script goes from `old` to `new`, and the third bench comes to hold `cells`
+--     GoesBack f g l led script script' home home' w     w is the way back, or why there is none: the memory of the script goes from `script` to script', and the cells
+--                                                        memory of the third bench from `home` to home'
 use Rattle.std.specs.Prelude.{◌≡◌, ℕ, ◌<◌, ◌≤◌, List, ◌++◌, length, drop, neg_ℤ, Ok}
 use Rattle.any_bench.specs.Scenes.{Scene}
 use Rattle.lattice.specs.Lattice.{Lattice}
@@ -20,7 +20,7 @@ use Rattle.scripts.specs.declared.state.State.TheVariants.{Rest, Session}
 abbrev pub begun : (Lattice → Lattice) → (Lattice → Lattice) → Lattice → Ledger → Scene
 begun f g l led = record { ledger = at_opening; lattice = standing_for f g led l }
 
--- the script is that of the actions that stand. It is run on the third bench; the run takes all its records, the opening lattice is there again, and the clock is the opposite
+-- the script undoes the actions that stand. The third bench makes all of its records, and is back at the opening lattice; its clock is the opposite
 pub record Home (f g : Lattice → Lattice) (l : Lattice) (led : Ledger) (old new cells : List ℕ) (j : Journey) : Type 0 where
   pub rests : led.state ≡ Rest
   pub len : j.script_len ≡ length (home_script led.standing)

@@ -1,4 +1,4 @@
-// The calls of a life.
+//! The calls of a life.
 ghost use Rattle.std.specs.Prelude.{◌≡◌, ◌≢◌, ◌*◌, ℕ, List, length, true, if◌then◌else◌};
 ghost use Rattle.any_bench.specs.AnyBenches.{any_map, any_start, any_ledger, any_handed};
 ghost use Rattle.any_bench.specs.declared.answer.Answer.TheVariants.{PassedOver, Refused};
@@ -23,7 +23,7 @@ fn needs_cells(call: Record) -> bool
     !matches!(call, Record::Open | Record::Close)
 }
 
-// A call that is handed a memory of another length: it is refused, or passed over where the state does not permit it, and changes nothing.
+// Makes a call that needs cells with a memory that is too long or too short: it is refused, or skipped where the state does not permit it.
 fn call_elsewhere<'m, M: Map>(
     bench: AnyBench<'m, M>,
     call: Record,
@@ -40,7 +40,7 @@ fn call_elsewhere<'m, M: Map>(
     bench.call(call, part)
 }
 
-// Makes the call of an event, if it is one, and asks for the counts.
+// Makes the call of an event, or skips it if it is no call of the life, and then reads the counts.
 pub(crate) fn make_event<'m, M: Map>(
     bench: AnyBench<'m, M>,
     event: Event,

@@ -1,32 +1,32 @@
-// What happens in a life.
+//! The events of a life, and what is reported of each.
 use any_bench::answer::Answer;
 use bench::bench::Counts;
 use scripts::record::Record;
 
-// The cells memory that a call is handed.
+/// The memory that a call gets as its cells.
 #[derive(Clone, Copy, PartialEq, Eq, Debug)]
 pub enum Lent {
-    // That of the bench.
+    /// The cells of its own bench.
     Own,
-    // So many bytes from the beginning of another memory, or all of it, if it is shorter.
+    /// The first bytes of `Memories::second`: so many, or all if it has fewer.
     Part(usize),
 }
 
-// A call, and the memory that it is handed if it takes cells.
+/// A call, and which memory it gets. For `open` and `close`, which need no cells, `lent` is ignored.
 #[derive(Clone, Copy, PartialEq, Eq, Debug)]
 pub struct Event {
     pub call: Record,
     pub lent: Lent,
 }
 
-// What a bench answers to a call, and to a count call after it.
+/// What a bench reports of an event: the answer to its call, and the counts after it.
 #[derive(Clone, Copy, PartialEq, Eq, Debug)]
 pub struct Told {
     pub answer: Answer,
     pub counts: Counts,
 }
 
-// The same of a bench and of its mirror.
+/// What the bench and its mirror report of the same event.
 #[derive(Clone, Copy, PartialEq, Eq, Debug)]
 pub struct Seen {
     pub bench: Told,

@@ -1,4 +1,4 @@
-// Whole lives of benches: what is held, the way back, and the mirror.
+//! Whole lives: a bench and its mirror, through any calls, and the way back from where these lead.
 #![tactic(auto)]
 
 mod calls;

@@ -1,4 +1,4 @@
-// A whole life of a bench, with its mirror and the way back.
+//! A whole life of a bench, with its mirror and the way back.
 ghost use Rattle.std.specs.Bool.{Decides};
 ghost use Rattle.lives.specs.Laws.{AllWhole, Lived, LifeIs};
 
@@ -12,9 +12,9 @@ use lattice::map::Map;
 use lattice::start::Start;
 use layers::reverse::Reverse;
 
-// Opens a bench over the map, and over the reversed map a second one on a copy of the cells, its mirror. Both are given the events, the mirror with opposite
-// step counts. An event that is no call of a life is passed over. If the bench rests in the end, its reverse script is written as text, read, and run on a
-// third bench, which is opened over the same map on a copy of what is held. It is refused if a memory of one of the three benches is not whole.
+/// Lives a life: makes the events on a bench over `map`, and on its mirror, a bench over the reverse of `map` that begins with equal cells and gets
+/// every step count negated. Skips events that are no call of the life. Unless a session is left open, a third bench over `map` takes over the cells
+/// that came out, and runs the reverse script. Refused with `Cells`, before anything is done, if `cells`, `mirror` or `home` has the wrong length.
 pub fn live<M: Map + Drop>(
     map: M,
     start: Start,
@@ -29,7 +29,7 @@ pub fn live<M: Map + Drop>(
     Ok(live_through(map, start, events, memories))
 }
 
-// Whether the memories of the three benches are whole.
+// Whether the cells memories of the three benches have the right length.
 fn are_whole(start: &Start, memories: &Memories<'_>) -> bool
     ensures { Decides result (AllWhole start.now memories.now) }
 {

@@ -1,18 +1,19 @@
-// The memories of a life.
+//! The memories of a life.
 use crate::event::Seen;
 
+/// The memories that a life works in. The first three need one byte for each cell of the lattice; the others may have any length.
 #[derive(Drop)]
 pub struct Memories<'m> {
-    // The cells of the bench; at its opening, those of the opening lattice.
+    /// The cells of the bench, from the opening lattice on.
     pub cells: &'m mut [u8],
-    // The cells of its mirror.
+    /// The cells of its mirror, at first overwritten by a copy of `cells`.
     pub mirror: &'m mut [u8],
-    // The cells of the third bench, which goes the way back.
+    /// The cells of the third bench, which goes the way back; as they were if there is none.
     pub home: &'m mut [u8],
-    // What calls are handed in place of the cells. It stays as it is.
+    /// The bytes that `Lent::Part` refers to; never changed.
     pub second: &'m mut [u8],
-    // The reverse script.
+    /// Receives the reverse script; bytes after the script are kept.
     pub script: &'m mut [u8],
-    // What is told after each event, as far as there is room.
+    /// Receives the reports, one for each event in turn, as long as there are places; further places are kept.
     pub seen: &'m mut [Seen],
 }

@@ -1,4 +1,4 @@
-// What the mirror of a bench is given.
+//! What the mirror of a bench gets.
 ghost use Rattle.std.specs.Prelude.{◌≡◌};
 ghost use Rattle.ledger.specs.Mirrors.{opposite};
 ghost use Rattle.lives.specs.Mirrors.{mirror_event};
@@ -6,14 +6,14 @@ ghost use Rattle.lives.specs.Mirrors.{mirror_event};
 use crate::event::Event;
 use scripts::record::Record;
 
-// The opposite count; a count that has none in its type stays as it is.
+// The negated count, or the count itself where `i32` has no such number.
 fn opposite(count: i32) -> i32
     ensures { result ≡ opposite count }
 {
     count.checked_neg().unwrap_or(count)
 }
 
-// The same event with the opposite step count.
+// The event as the mirror gets it.
 pub(crate) fn mirrored(event: Event) -> Event
     ensures { result ≡ mirror_event event }
 {

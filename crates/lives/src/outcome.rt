@@ -1,30 +1,33 @@
-// What comes of a life.
+//! How a life ends.
 use bench::bench::Counts;
 use faults::run::RunFault;
 use lattice::start::Start;
 
-// The way back: the reverse script was written, read and run on a third bench, which was opened on the lattice that was held.
+/// A way back that was made: the reverse script, and what its run on a third bench came to.
 #[derive(Clone, Copy, PartialEq, Eq, Debug)]
 pub struct Journey {
-    // How many bytes the script has.
+    /// The length of the script in bytes.
     pub script_len: usize,
-    // What its run answered.
+    /// The result of the run.
     pub answer: Result<usize, RunFault>,
-    // The start record, and the count call's answer, at its end.
+    /// The third bench's start record after the run.
     pub start: Start,
+    /// The third bench's counts after the run.
     pub counts: Counts,
 }
 
+/// The way back, or why there is none.
 #[derive(Clone, Copy, PartialEq, Eq, Debug)]
 pub enum WayBack {
-    // The life ends in session.
+    /// A session is open when the life ends.
     InSession,
-    // The memory is too short for the script.
+    /// The script does not fit in `Memories::script`.
     MemoryTooShort,
+    /// The script was written and run.
     Gone(Journey),
 }
 
-// The start records of the bench and of its mirror at the end, and what the count call answers then; and the way back.
+/// What a life ends with: start record and counts of the bench, those of its mirror, and the way back.
 #[derive(Clone, Copy, PartialEq, Eq, Debug)]
 pub struct Outcome {
     pub start: Start,

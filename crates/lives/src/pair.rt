@@ -1,4 +1,4 @@
-// A bench and its mirror, given the same events.
+//! A bench and its mirror, with the same events.
 ghost use Rattle.std.specs.Prelude.{◌≡◌, length};
 ghost use Rattle.any_bench.specs.AnyBenches.{any_map, any_start, any_ledger, any_handed};
 ghost use Rattle.layers.specs.Parts.{reversed_of};
@@ -17,7 +17,7 @@ use lattice::map::Map;
 use lattice::start::Start;
 use layers::reverse::Reverse;
 
-// The mirror stands over the reversed map.
+// Opens a bench over the map that `map` is the reverse of, and its mirror over `map`.
 fn open_both<'m, M: Map>(
     map: &'m Reverse<M>,
     start: Start,
@@ -34,7 +34,7 @@ fn open_both<'m, M: Map>(
     (bench, image)
 }
 
-// Opens both and makes all events. `seen` keeps what they tell, as far as there is room.
+// Opens both and makes all events on both. `seen` receives their reports, as long as there are places.
 pub(crate) fn make_events<'m, M: Map>(
     map: &'m Reverse<M>,
     start: Start,

@@ -1,4 +1,4 @@
-// The way back from where a life has led.
+//! The way back from where a life has led.
 ghost use Rattle.std.specs.Prelude.{◌≡◌, length};
 ghost use Rattle.any_bench.specs.AnyBenches.{any_map, any_ledger, any_handed};
 ghost use Rattle.lattice.specs.Lattice.{Lattice, Whole, Within};
@@ -14,7 +14,7 @@ use runs::run::run;
 
 const FIRST_LINE: u32 = 1;
 
-// Where the bench rests, its reverse script is written, read, and run on a third bench.
+// Unless a session is open, writes the reverse script, opens a third bench on a copy of `cells`, and runs the script there.
 pub(crate) fn go_back<M: Map>(
     map: &M,
     bench: AnyBench<'_, M>,

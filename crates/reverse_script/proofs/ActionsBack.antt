@@ -1,4 +1,4 @@
--- Actions that are written, the last one first. Assumes nothing.
+-- Writing actions, the last one first. Assumes nothing.
 use Rattle.std.proofs.Common.{◌≡◌, ℕ, ◌+◌, ◌-◌, ◌<◌, ◌≤◌, List, [], ◌∷◌, ◌++◌, length, take, drop, flat_map, refl, sym, ap, ◌∙◌, subst, arith}
 use Rattle.std.proofs.lemmas.Grind.{flat_map-append}
 use Rattle.std.proofs.lemmas.List.{length-append, length-take-le, length-drop, append-nil, append_assoc, take-append-drop, take-take, drop_at}
@@ -20,7 +20,7 @@ home_text a acts =
     ∙ ap script_of (flat_map-append making (home_of acts) (reversed a ∷ []) ∙ ap (λ x. home_records acts ++ x) (append-nil (making (reversed a))))
     ∙ flat_map-append written (home_records acts) (making (reversed a))
 
--- `left` are the first of all actions, and a is the last of them
+-- `left` is the first part of all actions, and a is the last of that part
 module _ (all left : List Action) (a : Action) (front : left ≡ take (length left) all) (fewer : length left ≤ length all) (last : a ∷ [] ≡ drop (length left - 1) left) where
   some : 0 < length left
   some = let len = length-drop (length left - 1) left in let one = ap length last in omega arith

@@ -1,4 +1,4 @@
--- Flips that are written, the last one first. Assumes nothing.
+-- Writing flips, the last one first. Assumes nothing.
 use Rattle.std.proofs.Common.{◌≡◌, ℕ, ◌+◌, ◌≤◌, List, [], ◌∷◌, ◌++◌, length, take, drop, map, reverse, refl, sym, ap, ◌∙◌, arith}
 use Rattle.std.proofs.lemmas.Grind.{flat_map-append}
 use Rattle.std.proofs.lemmas.List.{length-append, reverse-append, map-append, append-nil, take-append-drop, take_at, drop_at, append_assoc}
@@ -19,7 +19,7 @@ back_cons f fs =
     ∙ flat_map-append written (map flip_record (reverse fs)) (flip_record f ∷ [])
     ∙ ap (λ x. back_text fs ++ x) (append-nil (written (flip_record f)))
 
--- the flips that are left are rest and one more, `last`
+-- the flips that are left are `rest`, and one more, `last`
 module _ (flips left rest : List Flip) (last : Flip) (front : left ≡ take (length left) flips) (fewer : length left ≤ length flips) (split : left ≡ rest ++ (last ∷ [])) where
   all_split : flips ≡ rest ++ (last ∷ drop (length left) flips)
   all_split = sym (take-append-drop (length left) flips) ∙ ap (λ x. x ++ drop (length left) flips) (sym front ∙ split) ∙ append_assoc rest (last ∷ []) (drop (length left) flips)
@@ -49,7 +49,7 @@ module _ (flips left rest : List Flip) (last : Flip) (front : left ≡ take (len
         put_next m a (back_text (drop (length left) flips)) (written r) now new end so_far place here (omega arith)
         ∙ ap (put_at m a) (sym more)
 
--- a session with the flips fs, the last one first
+-- a session that takes the flips fs back
 pub session_text : (fs : List Flip) → script_of (making (Edit (reverse fs))) ≡ written Open ++ (back_text fs ++ written Close)
 session_text fs =
     ap (λ x. written Open ++ x) (flat_map-append written (map flip_record (reverse fs)) (Close ∷ []) ∙ ap (λ x. back_text fs ++ x) (append-nil (written Close)))

@@ -1,4 +1,4 @@
--- The text of flips that are taken back. Cited by inner functions alone.
+-- The text of flips being taken back. Cited by inner functions alone.
 --     back_text fs     the records of the flips fs, the last one first, as text
 use Rattle.std.specs.Prelude.{ℕ, List, map, reverse}
 use Rattle.actions.specs.declared.flip.Flip.{Flip}

@@ -1,4 +1,4 @@
--- Refusals of writing a reverse script.
+-- Why a reverse script is not written.
 --     script_number e     the number of the cause e
 use Rattle.std.specs.Prelude.{ℕ}
 use Rattle.reverse_script.specs.declared.refusal.ScriptRefusal.{ScriptRefusal}

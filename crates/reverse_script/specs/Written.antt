@@ -1,6 +1,6 @@
--- A reverse script in a memory.
---     max_script                        so many bytes are always enough
---     ScriptWritten acts old new r      r is what writing the reverse script of the actions acts into a memory of `old` answers, which then holds `new`
+-- A reverse script in memory.
+--     max_script                        how many bytes are enough for any script
+--     ScriptWritten acts old new r      r is the result of writing the script that undoes the actions acts; the memory goes from `old` to `new`
 use Rattle.std.specs.Prelude.{◌≡◌, ℕ, ◌<◌, ◌≤◌, List, ◌++◌, length, drop, Result, Ok, Err}
 use Rattle.actions.specs.Actions.{Action}
 use Rattle.ledger.specs.Homes.{home_script}

@@ -1,4 +1,4 @@
-// The script that leads home from where a journal's actions have led.
+//! The reverse script: a text whose records undo the actions of a journal.
 #![tactic(auto)]
 
 mod put;

@@ -1,4 +1,4 @@
-// Writing records behind one another.
+//! Writing records one after another.
 ghost use Rattle.std.specs.Prelude.{◌≡◌, ◌+◌, ◌*◌, ◌≤◌, length, neg_ℤ, reverse, unsigned_abs};
 ghost use Rattle.actions.specs.Actions.{Edit, action_of, reversed};
 ghost use Rattle.text.specs.Puts.{put_at};
@@ -13,7 +13,7 @@ use actions::flip::Flip;
 use scripts::record::Record;
 use scripts::write::write_record;
 
-// Writes a record to this place, and answers the place behind it.
+// Writes a record at this place, and returns the place after it.
 fn put(record: Record, script: &mut [u8], at: usize) -> usize
     requires { at + length (written «record») ≤ length script.old }
     ensures memory { script.new ≡ put_at script.old at (written «record») }
@@ -22,7 +22,7 @@ fn put(record: Record, script: &mut [u8], at: usize) -> usize
     write_record(record, script, at).unwrap_or(at)
 }
 
-// The byte as a number of a record.
+// A byte as a number of a record.
 fn wide(byte: u8) -> u32
     ensures value { result ≡ byte }
     ensures small { result ≤ 255 }
@@ -30,7 +30,7 @@ fn wide(byte: u8) -> u32
     u32::from(byte)
 }
 
-// The record of a flip. Each of its numbers is a byte.
+// The record of a flip. Each of its numbers fits a byte.
 #[tactic(auto, using(ledger::proofs::WrittenLengths::flip_length))]
 fn record_of(flip: Flip) -> Record
     ensures is { result ≡ flip_record flip }
@@ -43,7 +43,7 @@ fn record_of(flip: Flip) -> Record
     }
 }
 
-// The same of flips, the last one first.
+// Writes the records of flips, the last one first, and returns the place after them.
 fn put_flips(flips: &[Flip], script: &mut [u8], at: usize) -> usize
     requires { at + 17 * length flips.now ≤ length script.old }
     ensures memory { script.new ≡ put_at script.old at (back_text flips.now) }
@@ -59,7 +59,7 @@ fn put_flips(flips: &[Flip], script: &mut [u8], at: usize) -> usize
     end
 }
 
-// The same of a session with flips, the last one first.
+// Writes a session that takes flips back, and returns the place after it.
 #[tactic(auto, using(crate::proofs::FlipsBack::session_text))]
 fn put_session(flips: &[Flip], script: &mut [u8], at: usize) -> usize
     requires { at + 17 * length flips.now + 11 ≤ length script.old }
@@ -72,7 +72,7 @@ fn put_session(flips: &[Flip], script: &mut [u8], at: usize) -> usize
     put(Record::Close, script, flipped)
 }
 
-// The step count that leads back.
+// The count of the step that takes back a step.
 #[tactic(auto, using(ledger::proofs::Mirrored::abs_neg))]
 fn opposite(count: i32) -> i32
     requires { unsigned_abs count ≤ 10000 }
@@ -82,7 +82,7 @@ fn opposite(count: i32) -> i32
     -count
 }
 
-// The same of an action, as it is taken back.
+// Writes the records that take an action back, and returns the place after them.
 #[tactic(auto, using(ledger::proofs::WrittenLengths::step_length))]
 pub(crate) fn put_reversed(action: ActionRef<'_>, script: &mut [u8], at: usize) -> usize
     requires known { IsKept (action_of action) }

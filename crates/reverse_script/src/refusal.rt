@@ -1,12 +1,13 @@
-// Why a reverse script is not written.
+//! Why a reverse script is not written.
 ghost use Rattle.std.specs.Prelude.{◌≡◌};
 ghost use Rattle.reverse_script.specs.Refusals.{script_number};
 
 use thiserror::Error;
 
-// The cause with its number, as docs/REFUSALS.md lists it.
+/// The cause, with its number in docs/REFUSALS.md.
 #[derive(Clone, Copy, PartialEq, Eq, Debug, Error)]
 pub enum ScriptRefusal {
+    /// The script has more bytes than the memory.
     #[error("the memory is too short for the script")]
     MemoryTooShort = 30,
 }

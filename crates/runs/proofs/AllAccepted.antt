@@ -1,5 +1,5 @@
 -- Records of which none is refused. Assumes nothing.
---     Goes f g s rs t     from what is held as s the records rs lead to t, and all are accepted
+--     Goes f g s rs t     the records rs lead from s to t, and all are accepted
 use Rattle.std.proofs.Common.{◌≡◌, ℕ, List, [], ◌∷◌, None, Option, refl, ap, ◌∙◌}
 use Rattle.any_bench.specs.Scenes.{Scene, told_at, after_call, after_calls}
 use Rattle.any_bench.specs.declared.answer.Answer.{Answer}

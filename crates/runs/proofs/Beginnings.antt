@@ -1,4 +1,4 @@
--- A reader at the beginning of a script has all of its records left. Assumes nothing.
+-- At the beginning of a script, all of its records are left to read. Assumes nothing.
 use Rattle.std.proofs.Common.{◌≡◌, ℕ, List, Ok, drop, ap, ap₂, ◌∙◌}
 use Rattle.faults.proofs.Joined.{went_on}
 use Rattle.scripts.specs.Judgements.{script, records_from}

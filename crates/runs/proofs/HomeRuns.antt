@@ -1,4 +1,4 @@
--- The records that make given actions are accepted by a bench that has room for them, and do make them. Assumes nothing.
+-- A bench that has room for given actions accepts the records that make them, and they do make them. Assumes nothing.
 use Rattle.std.proofs.Common.{◌≡◌, ℕ, ◌+◌, ◌*◌, ◌≤◌, Bool, true, false, cond, List, [], ◌∷◌, ◌++◌, length, map, flat_map, Some, None, Option, refl, sym, ap, ap₂, ◌∙◌, subst, arith}
 use Rattle.std.proofs.lemmas.List.{append_assoc, append-nil, length-append}
 use Rattle.std.proofs.lemmas.List.Elements.{All-head, All-tail, All-push}
@@ -29,7 +29,7 @@ use Rattle.scripts.specs.declared.record.Record.{Record}
 use Rattle.scripts.specs.declared.record.Record.TheVariants as Call
 use Rattle.scripts.specs.declared.state.State.TheVariants.{Rest, Session}
 
--- a permitted call with no cause of refusal is not refused
+-- a call that the state permits and to which no cause applies is not refused
 not_refused : (b t : Bool) (d : Option BenchRefusal) (n : ℕ) → b ≡ true → d ≡ None → (e : BenchRefusal) → cond b (cond t (said (unless d n)) Given) PassedOver ≡ Refused e → ⊥
 not_refused false t d n may none e h = absurd cc
 not_refused true false d n may none e h = absurd cc
@@ -42,7 +42,7 @@ accepted true None x y may none = refl
 accepted true (Some c) x y may none = absurd cc
 
 module _ (f g : Lattice → Lattice) (laws : Reversible f g) (l : Lattice) (inside : Within l) (whole : Whole l) where
-  -- what is held in a life that was opened on l
+  -- what is held with a given ledger, in a life that was opened on l
   abbrev pub at : Ledger → Scene
   at led = record { ledger = led; lattice = standing_for f g led l }
 

@@ -1,5 +1,5 @@
 -- A run, by the records that are left. Assumes nothing.
---     LeftToRun f g r s q t k n     k of the n records of r were made, and what was held as s is t now; those that are left in q come to what all of r come to
+--     LeftToRun f g r s q t k n     k of the n records of r were made and led from s to t; those left in q come to what all of r come to
 use Rattle.std.proofs.Common.{◌≡◌, ℕ, ◌+◌, List, ◌∷◌, Some, Ok, Result, length, refl, sym, ap, ap₂, ◌∙◌, arith}
 use Rattle.any_bench.proofs.Refused.{refused_leaves}
 use Rattle.any_bench.specs.Scenes.{Scene, told_at, after_call}
@@ -18,7 +18,7 @@ use Rattle.scripts.specs.declared.record.Record.{Record}
 use Rattle.scripts.specs.declared.records.Records.{Records}
 use Rattle.text.specs.Readers.{line_of}
 
--- the records rs that are left on reader q
+-- the records that the reader q has left
 pub record Left (f g : Lattice → Lattice) (r : Records) (all : List Record) (s : Scene) (q : Records) (t : Scene) (k n : ℕ) : Type 0 where
   pub records : List Record
   pub left : left_of q ≡ Ok records

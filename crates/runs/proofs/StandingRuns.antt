@@ -1,5 +1,5 @@
--- What a bench holds after a run is what the actions that stand make of what it was opened on, and it rests. Assumes nothing.
---     Stands f g l s     the ledger of s is sound, and what is held is what it says, if l was the lattice of the opening
+-- After a run the bench rests, and holds what the actions that stand make of the lattice it was opened on. Assumes nothing.
+--     Stands f g l s     the ledger of s is sound, and s holds what the ledger says, if l was the opening lattice
 use Rattle.std.proofs.Common.{◌≡◌, Bool, true, false, cond, List, [], ◌∷◌, length, Some, None, Option, refl, sym, ap, ap₂, ◌∙◌, subst}
 use Rattle.std.proofs.lemmas.Bool.{cond_both}
 use Rattle.any_bench.proofs.PassedOver.{at_test}
@@ -32,7 +32,7 @@ same_state true None x y same = same
 same_state true (Some e) x y same = refl
 
 module _ (f g : Lattice → Lattice) (laws : Reversible f g) (l : Lattice) (inside : Within l) where
-  -- a call that is handed what the ledger says
+  -- a call, made with the cells of what the ledger says
   module _ (c : Record) (led : Ledger) (s : Sound l.width l.height led) where
     shape : SameShape l (standing_for f g led l)
     shape = standing_shape f g laws l.width l.height led l s inside
@@ -70,7 +70,7 @@ module _ (f g : Lattice → Lattice) (laws : Reversible f g) (l : Lattice) (insi
 pub stands_opened : (f g : Lattice → Lattice) (l : Lattice) → Stands f g l (record { ledger = at_opening; lattice = l })
 stands_opened f g l = record { sound = sound_at_opening l.width l.height; held = refl }
 
--- a session that is cleared and closed leaves the bench at rest
+-- clearing and then closing a session leaves the bench at rest
 cleared : (f g : Lattice → Lattice) (s : Scene) → (after_call f g Call.Clear s).ledger.state ≡ s.ledger.state
 cleared f g s =
     let l = s.lattice in

@@ -1,4 +1,4 @@
--- A run record by record is the records before the first that is refused, made one after another. Assumes nothing.
+-- Running record by record is making the records before the first refused one, one after another. Assumes nothing.
 use Rattle.std.proofs.Common.{◌≡◌, ℕ, suc, ◌+◌, List, [], ◌∷◌, Some, None, Option, Ok, Err, Result, length, refl, sym, ap, ◌∙◌, arith}
 use Rattle.any_bench.specs.Scenes.{Scene, told_at, after_call, after_calls}
 use Rattle.any_bench.specs.declared.answer.Answer.{Answer}
@@ -16,7 +16,7 @@ module _ (f g : Lattice → Lattice) where
   more_made None r rs s = refl
   more_made (Some p) r rs s = refl
 
-  -- a the answer to the first record
+  -- a is the answer to the first record
   one_ran : (a : Answer) (r : Record) (rs : List Record) (s t : Scene) (d : Option (ℕ × BenchRefusal)) → t ≡ after_calls f g (after_call f g r s) (made_of d rs) → unless_refused a t s ≡ after_calls f g s (made_of (here_or a d) (r ∷ rs))
   one_ran (Refused e) r rs s t d h = refl
   one_ran PassedOver r rs s t d h = h ∙ sym (more_made d r rs s)
@@ -27,7 +27,7 @@ module _ (f g : Lattice → Lattice) where
   ran_is s [] = refl
   ran_is s (r ∷ rs) = one_ran (told_at r s) r rs s (ran f g (after_call f g r s) rs) (first_refused f g (after_call f g r s) rs) (ran_is (after_call f g r s) rs)
 
-  -- k records were made before, and the first of rs is on line n
+  -- k records were made before, and rs begins on line n
   later_answer : ℕ → ℕ → Option (ℕ × BenchRefusal) → List Record → Result ℕ RunFault
   later_answer n k None rs = Ok (k + length rs)
   later_answer n k (Some p) rs = Err (Bench p.1 (n + p.0))

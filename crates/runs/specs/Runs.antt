@@ -1,15 +1,15 @@
 -- The run of a script on what is held. Here f and g are the two functions of the map.
---     first_refused f g s rs     the place of the first of the records rs that is refused, counted from 0, and its cause; none, if all are accepted
---     one_later d                the same of a list with one record more in front
---     here_or a d                the same of a list whose first record is answered by a, where d is that of the rest
---     made_of d rs               the records of rs that are made, where d is the first refused
---     answer_of n d rs           what is answered then, if the first of rs is on line n: how many were made, or the fault
---     closed_if t f g s          s, after the session is cleared and closed if the state t is in session
---     at_rest f g s              what is held after an open session is cleared and closed
---     asked l n bs               the records of the text bs, whose first line is line n, or what forbids to begin: cells that are no whole lattice, or a fault of the text
---     run_answer f g s n bs      what the run of bs answers
---     run_of f g s a             what is held after the records a are run, or nothing is, for the fault a
---     run_scene f g s n bs       what is held after it: of what is refused nothing stays, and the bench rests
+--     first_refused f g s rs     the index of the first of the records rs that is refused, from 0, with its cause; none if all are accepted
+--     one_later d                d for a list with one more record at its head
+--     here_or a d                the same for a whole list, where a is the answer to its head and d belongs to the rest
+--     made_of d rs               the records of rs that are made, where d is the first that is refused
+--     answer_of n d rs           the result then, if rs begins on line n: how many records were made, or the fault
+--     closed_if t f g s          s, after Clear and Close if the state t is in session
+--     at_rest f g s              the same for the state of s itself: no session is open any more
+--     asked l n bs               the records of the text bs, which begins on line n; or why none is made: l is not whole, or the text has a fault
+--     run_answer f g s n bs      the result of running bs
+--     run_of f g s a             s after running the records a; s as it was, if a is a fault
+--     run_scene f g s n bs       s after running bs: at rest, and without the flips of a session that a refusal cut short
 use Rattle.std.specs.Prelude.{ℕ, suc, ◌+◌, ◌*◌, ◌==◌, List, [], ◌∷◌, length, take, Option, Some, None, Result, Ok, Err, if◌then◌else◌}
 use Rattle.any_bench.specs.Scenes.{Scene, told_at, after_call, after_calls}
 use Rattle.any_bench.specs.declared.answer.Answer.{Answer}

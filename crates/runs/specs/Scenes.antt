@@ -1,5 +1,5 @@
--- A bench at rest and its cells as values.
---     rest_scene b cs     what the bench b holds, whose cells are cs
+-- A bench at rest together with its cells, as a value.
+--     rest_scene b cs     what the bench b with the cells cs holds
 use Rattle.std.specs.Prelude.{ℕ, List}
 use Rattle.any_bench.specs.Scenes.{Scene}
 use Rattle.bench.specs.Benches.{ledger_of, handed}

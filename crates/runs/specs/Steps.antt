@@ -1,9 +1,9 @@
--- A run, record by record, as it is made. Cited by inner functions alone. Here f and g are the two functions of the map.
---     fault_in a n                  the fault of the run, if a is answered to the record on line n
+-- A run, record by record. Cited by inner functions alone. Here f and g are the two functions of the map.
+--     fault_in a n                  the fault of the run, if a is the answer to the record on line n
 --     unless_refused a x y          x, or y if the answer a is a refusal
 --     answer_after a n x            x, or the fault of line n if the answer a is a refusal
---     ran f g s rs                  what is held after the records rs, up to the first that is refused
---     ran_answer f g n k s rs       what is answered where the first of rs is on line n, and k records were made before
+--     ran f g s rs                  s after the records rs, up to the first that is refused
+--     ran_answer f g n k s rs       the result then, if rs begins on line n and k records were made before
 use Rattle.std.specs.Prelude.{ℕ, ◌+◌, List, [], ◌∷◌, Option, Some, None, Result, Ok, Err}
 use Rattle.any_bench.specs.Scenes.{Scene, told_at, after_call}
 use Rattle.any_bench.specs.declared.answer.Answer.{Answer}

@@ -1,4 +1,4 @@
-// The run of a script on a bench.
+//! Running a script on a bench.
 #![tactic(auto)]
 
 pub mod run;

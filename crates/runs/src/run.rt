@@ -1,4 +1,4 @@
-// The run of a script on a bench.
+//! Running a script on a bench.
 ghost use Rattle.std.specs.Prelude.{◌≡◌, List, Ok, length};
 ghost use Rattle.any_bench.specs.AnyBenches.{any_map};
 ghost use Rattle.any_bench.specs.Scenes.{scene_of};
@@ -19,7 +19,7 @@ use lattice::map::Map;
 use scripts::records::Records;
 use scripts::run::check_run;
 
-// The fault of a run, if this is the answer to the record on this line.
+// The fault of the run, if `answer`, given to the record on this line, is a refusal.
 fn fault_of(answer: Answer, line: usize) -> Option<RunFault>
     ensures { result ≡ fault_in answer line }
 {
@@ -29,7 +29,7 @@ fn fault_of(answer: Answer, line: usize) -> Option<RunFault>
     }
 }
 
-// Makes the `count` records that are left, up to the first that is refused.
+// Makes the next `count` records, and stops at the first that is refused.
 fn make_records<'m, M: Map>(
     bench: AnyBench<'m, M>,
     cells: &mut [u8],
@@ -57,7 +57,7 @@ fn make_records<'m, M: Map>(
     (bench, Ok(count))
 }
 
-// The bench, at rest: an open session is cleared and closed.
+// Brings the bench to rest: a session that is open is cleared and then closed.
 fn come_to_rest<'m, M: Map>(bench: AnyBench<'m, M>, cells: &mut [u8]) -> Bench<'m, M>
     ensures scene { rest_scene result cells.new ≡ at_rest (M.forward (any_map bench.entry)) (M.backward (any_map bench.entry)) (scene_of bench.entry cells.old) }
     ensures map { map_of result ≡ any_map bench.entry }
@@ -71,8 +71,10 @@ fn come_to_rest<'m, M: Map>(bench: AnyBench<'m, M>, cells: &mut [u8]) -> Bench<'
     }
 }
 
-// Runs the script: the cells are looked at, then the whole text, and then its records are made, up to the first that is refused. The bench rests
-// afterwards, and of a session that a refusal leaves open nothing stays.
+/// Runs a script on the bench, and gives the bench back at rest. The first line of `text` has the number `first_line`.
+/// Returns how many records were made. None is made if `cells` has the wrong length (`Cells`, with line 0) or anything in the text is at fault
+/// (`RunFault::Record`). Otherwise the first refusal ends the run, with its cause and line: what was made before it stays, except for the flips of a
+/// session that it cut short.
 pub fn run<'m, M: Map>(
     bench: Bench<'m, M>,
     cells: &mut [u8],

@@ -1,4 +1,4 @@
--- The events that were made are those of the records that were read.
+-- The events made so far are those of the records read so far.
 use Rattle.std.proofs.Common.{length}
 use Rattle.scripts.specs.Reading.{reader_of}
 use Rattle.text.specs.Readers.{rest_of}

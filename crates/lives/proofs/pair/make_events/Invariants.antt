@@ -1,4 +1,4 @@
--- Both are where the events so far have led, and what they told is recorded.
+-- Both are where the events so far have led, and their reports are recorded.
 use Rattle.std.proofs.Common.{◌≡◌, length, take}
 use Rattle.any_bench.specs.AnyBenches.{any_map, any_ledger, any_handed}
 use Rattle.lattice.specs.Starts.{held}

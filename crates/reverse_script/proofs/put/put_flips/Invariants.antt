@@ -1,4 +1,4 @@
--- The flips behind those that are left are written.
+-- The flips after those that are left are written.
 use Rattle.std.proofs.Common.{◌≡◌, ◌+◌, ◌*◌, ◌≤◌, length, take, drop}
 use Rattle.reverse_script.proofs.put.put_flips.Given as goal
 use Rattle.reverse_script.specs.FlipTexts.{back_text}

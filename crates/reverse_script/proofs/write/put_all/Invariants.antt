@@ -1,4 +1,4 @@
--- The actions behind those that are left are written.
+-- The actions after those that are left are written.
 use Rattle.std.proofs.Common.{◌≡◌, ◌+◌, ◌*◌, ◌≤◌, length, take, drop}
 use Rattle.journal.specs.Backwards.{left_of}
 use Rattle.journal.specs.Journals.{standing_of}

@@ -1,4 +1,4 @@
--- What is left to make comes to what there was to make.
+-- The records that are left come to what all of them come to.
 use Rattle.std.proofs.Common.{◌≡◌}
 use Rattle.any_bench.specs.AnyBenches.{any_map}
 use Rattle.any_bench.specs.Scenes.{scene_of}
