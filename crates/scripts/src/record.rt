@@ -1,6 +1,7 @@
-// The records of a script.
+//! The records of a script.
 use crate::word::Word;
 
+/// One line of a script. Whether its numbers suit the lattice is for the bench to judge.
 #[derive(Clone, Copy, PartialEq, Eq, Debug)]
 pub enum Record {
     Step(i32),
@@ -16,7 +17,7 @@ impl Record {
     ghost use Rattle.std.specs.Prelude.{◌≡◌};
     ghost use Rattle.scripts.specs.Records.{kind_of};
 
-    // The word that the record begins with.
+    /// The word that the record begins with.
     pub fn word(&self) -> Word
         ensures { result ≡ kind_of self.now }
     {
