@@ -1,4 +1,4 @@
-// The lift: a reversible map of any local rule, by Fredkin's second-order construction.
+//! The lift: a second-order rule of any local rule, which is reversible whatever the rule is.
 #![tactic(auto)]
 
 mod answers;
