@@ -1,4 +1,4 @@
-// Local rules: neighbourhoods, masks, tables, Life.
+//! Local rules: neighbourhoods, masks, tables, Life.
 use rules::count::CountRule;
 use rules::neighbourhood::Neighbourhood;
 use rules::rule::LocalRule;
