@@ -7,11 +7,11 @@ use Rattle.block_map.specs.Blocks.{offset, rewritten}
 use Rattle.block_map.specs.Progress.{Rewrote, IsCorner, only, in_row}
 use Rattle.block_map.proofs.Progress.{rewrote_none, rewrote_same, rewrote_join, rewrote_all}
 
--- the blocks of row Y whose corner is in a column below n
+-- the blocks with their corner in row Y and in a column below n
 abbrev pub row_before : ℕ → ℕ → ℕ → ℕ → Bool
 row_before Y n x y = ltb x n && eqb y Y
 
--- the blocks whose corner is in a row below n
+-- the blocks with their corner in a row below n
 abbrev pub rows_before : ℕ → ℕ → ℕ → Bool
 rows_before n x y = ltb y n
 

@@ -3,7 +3,7 @@
 --     Rewrote t w h p done old new    the blocks with a corner (x, y) for which `done` is true are rewritten by the table t, and no others
 --     RewroteAt t s done old new      the same, with sides and phase from the start record s
 --     only X Y                        the block with the corner (X, Y)
---     in_row Y                        the blocks whose corner is in row Y
+--     in_row Y                        the blocks with their corner in row Y
 --     IsCorner n p x                  along one axis, x is the first of its block
 use Rattle.std.specs.Prelude.{◌≡◌, ℕ, ◌<◌, Bool, cond, ◌&&◌, List, length, ◌==◌}
 use Rattle.lattice.specs.Cells.{cell}

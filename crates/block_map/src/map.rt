@@ -1,4 +1,4 @@
-//! A block table as a map on the Margolus neighbourhood, whose blocks of two by two cells move by a cell to the right and down at phase 1.
+//! A block table as a map on the Margolus neighbourhood: blocks of two by two cells, which shift by a column and a row as the phase turns.
 ghost use Rattle.std.specs.Prelude.{◌≡◌};
 ghost use Rattle.lattice.specs.Cells.{OnlyBelow};
 ghost use Rattle.lattice.specs.Starts.{held};

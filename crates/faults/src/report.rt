@@ -12,8 +12,11 @@ use std::fmt;
 pub struct Report {
     /// Which layer found it: a field (1), a record or a whole text (2), or the bench (3).
     pub layer: u8,
+    /// The cause, as docs/REFUSALS.md numbers it.
     pub number: u8,
+    /// 0 for a fault that is on no line.
     pub line: usize,
+    /// 0 for a fault of no single field.
     pub field: usize,
 }
 

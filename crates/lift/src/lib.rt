@@ -1,4 +1,4 @@
-//! The lift: a second-order rule of any local rule, which is reversible whatever the rule is.
+//! The lift: the second-order rule that belongs to a local rule, and is reversible whatever that rule is.
 #![tactic(auto)]
 
 mod answers;

@@ -13,7 +13,7 @@ pub fn bbm() -> BlockMap
     BlockMap::new("bbm".parse().unwrap())
 }
 
-/// Critters.
+/// The block map of the table Critters.
 pub fn critters() -> BlockMap
     ensures forward { ⟦<BlockMap as Map>⟧.forward result ≡ critters_forward }
     ensures backward { ⟦<BlockMap as Map>⟧.backward result ≡ critters_backward }
@@ -21,7 +21,7 @@ pub fn critters() -> BlockMap
     BlockMap::new("critters".parse().unwrap())
 }
 
-/// Tron.
+/// The block map of the table Tron.
 pub fn tron() -> BlockMap
     ensures forward { ⟦<BlockMap as Map>⟧.forward result ≡ tron_forward }
     ensures backward { ⟦<BlockMap as Map>⟧.backward result ≡ tron_backward }

@@ -25,7 +25,7 @@ fn count_records(text: &[u8], first_line: u32) -> Result<usize, RecordFault>
 #[tactic(auto, using(crate::proofs::ScriptLaws::accepted_count, crate::proofs::ScriptLaws::taken, crate::proofs::ScriptLaws::fault))]
 pub fn check(text: &[u8], first_line: u32) -> Result<usize, RecordFault>
     ensures answer { result ≡ count_of (script first_line text.now) }
-    // accepted text is, byte for byte, what these many records are written as
+    // an accepted text is, byte for byte, what that many records are written as
     ensures accepted { IfOk result (λ count. (rs : List Record) × IsScript rs text.now × (count ≡ length rs)) }
     // the text that records are written as is accepted, and read as them
     ensures taken { (rs : List Record) → IsScript rs text.now → (script first_line text.now ≡ Ok rs) × (result ≡ Ok (length rs)) }

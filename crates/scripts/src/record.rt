@@ -4,10 +4,12 @@ use crate::word::Word;
 /// One line of a script. Whether its numbers suit the lattice is for the bench to judge.
 #[derive(Clone, Copy, PartialEq, Eq, Debug)]
 pub enum Record {
+    /// This many steps forward, or back if the number is negative.
     Step(i32),
     Undo,
     Redo,
     Open,
+    /// The bits of the mask flipped in one cell.
     Flip { col: u32, row: u32, mask: u32 },
     Clear,
     Close,

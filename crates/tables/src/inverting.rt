@@ -1,4 +1,4 @@
-//! The inverse of a list of entries, or the first cause why they are not a permutation.
+//! The inverse of a list of entries, or the first reason why they are not a permutation.
 ghost use Rattle.std.specs.Prelude.{◌≤◌};
 ghost use Rattle.tables.specs.Refusals.{Below, Inverted, PlacesOf};
 

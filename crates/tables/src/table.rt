@@ -17,8 +17,8 @@ pub struct Table<const N: usize> {
     ghost few: { N ≤ 255 },
 }
 
-// The data of a size, which is the identity and the built-in tables, stands in block.rt and cell.rt. An identity for every N would need
-// N ≤ 255, and a public call has no `requires`.
+// What belongs to one size, the identity and the built-in tables, is in block.rt and cell.rt. An identity for every N would have to require
+// N ≤ 255, and a public call requires nothing.
 impl<const N: usize> Table<N> {
     ghost use Rattle.tables.specs.Refusals.{Filled};
     ghost use Rattle.tables.specs.Tables.{entries_of, inverse_of};
