@@ -1,4 +1,4 @@
-// Examples of start records, tables and maps, with results worked out by hand or by the model under tools/.
+//! Examples of start records, tables and maps, with results worked out by hand or by the model under tools/.
 #![tactic(auto)]
 
 #[cfg(test)]

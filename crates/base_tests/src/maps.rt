@@ -1,4 +1,4 @@
-// Moves of small lattices.
+//! Moves of small lattices.
 use block_map::map::BlockMap;
 use cell_map::map::CellMap;
 use lattice::map::Map;

@@ -1,8 +1,8 @@
-// The limits of a start record, at their edges.
+//! The limits on a start record, at their edges.
 use lattice::start::Start;
 use std::test::Fail;
 
-// With the number of the cause, or `None` where the start record is made.
+// Each with the number of the cause, or `None` if the start record is made.
 #[test]
 fn limits_at_their_edges(rt: HostRuntime) {
     let cases: [(u32, u32, u32, Option<u8>); 19] = [

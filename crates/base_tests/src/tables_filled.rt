@@ -1,4 +1,4 @@
-// Fills of tables, from numbers and by name.
+//! Fills of tables, from numbers and by name.
 use samples::without_symmetry::{LOPSIDED, lopsided};
 use std::process::Abort;
 use tables::block::BlockTable;

@@ -15,7 +15,7 @@ or_false true b e = refl
 or_false false b e = e
 
 module _ (t : List ℕ) (w h p : ℕ) (wide : Side w) (high : Side h) (phase : p ≤ 1) where
-  -- the number of a block is that of its four cells
+  -- the number of a block depends on its four cells alone
   pub same_number : (old new : List ℕ) (X Y : ℕ) → IsCorner w p X → IsCorner h p Y
       → ((x y : ℕ) → x < w → y < h → corner w p x ≡ X → corner h p y ≡ Y → cell w new x y ≡ cell w old x y)
       → block_number w h new X Y ≡ block_number w h old X Y
@@ -37,7 +37,7 @@ module _ (t : List ℕ) (w h p : ℕ) (wide : Side w) (high : Side h) (phase : p
   pub rewrote_none : (cs : List ℕ) → Rewrote t w h p (λ _ _. false) cs cs
   rewrote_none cs = record { count = refl; cells = λ x y _ _. refl }
 
-  -- only what is asked of corners matters
+  -- only the values at corners matter
   pub rewrote_same : (D E : ℕ → ℕ → Bool) (old new : List ℕ) → ((X Y : ℕ) → IsCorner w p X → IsCorner h p Y → D X Y ≡ E X Y)
       → Rewrote t w h p D old new → Rewrote t w h p E old new
   rewrote_same D E old new same r = record {
@@ -45,7 +45,7 @@ module _ (t : List ℕ) (w h p : ℕ) (wide : Side w) (high : Side h) (phase : p
     cells = λ x y x< y<. r.cells x y x< y< ∙ ap (λ b. cond b (rewritten t w h p old x y) (cell w old x y)) (same (corner w p x) (corner h p y) (corner_is w p wide phase x x<) (corner_is h p high phase y y<));
   }
 
-  -- a block that is rewritten second was as at first
+  -- a block in the second set is still as it was at first
   pub rewrote_join : (D E : ℕ → ℕ → Bool) (old mid new : List ℕ) → ((X Y : ℕ) → E X Y ≡ true → D X Y ≡ false)
       → Rewrote t w h p D old mid → Rewrote t w h p E mid new → Rewrote t w h p (λ X Y. D X Y || E X Y) old new
   rewrote_join D E old mid new apart first second = record {

@@ -1,4 +1,4 @@
--- The blocks of a lattice that is held as a start record and its cells. Assumes nothing.
+-- The blocks of a lattice that a start record and its cells make up. Assumes nothing.
 use Rattle.std.proofs.Common.{◌≡◌, ℕ, ◌+◌, ◌*◌, ◌/◌, ◌<◌, List, length, sym, arith}
 use Rattle.lattice.specs.Cells.{cell, with_present, by_place, OnlyBelow}
 use Rattle.lattice.specs.Starts.{width_of, height_of, phase_of}

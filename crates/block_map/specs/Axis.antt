@@ -22,7 +22,7 @@ module _ (n p : ℕ) (side : Side n) (phase : p ≤ 1) where
   pub offset_before : (x : ℕ) → x < n → offset p x ≡ 1 → offset p (before n x) ≡ 0
   offset_before x h o = grind (arith, nat_tests)
 
-  -- the first of a block is its own corner, and the second has the first for its corner
+  -- the first of a block is its own corner, and the corner of the second is the first
   pub corner_first : (x : ℕ) → offset p x ≡ 0 → corner n p x ≡ x
   corner_first x o = cond-true (offset p x == 0) x (before n x) (eq-eqb (offset p x) 0 o)
 

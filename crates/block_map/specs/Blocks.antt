@@ -1,10 +1,10 @@
--- The blocks of two columns by two rows into which a phase cuts the lattice, and what a table makes of them.
+-- The Margolus neighbourhood: the blocks of two by two cells into which a phase divides the torus, and what a table makes of them.
 -- Here w and h are the sides, p is the phase, cs are the cells, x and y a column and a row, and t is the table.
---     offset p x                   on one axis: 0 where x is the first of its block, 1 where it is the second
---     corner n p x                 on an axis of n: the first of x's block
+--     offset p x                   along one axis: 0 if x is the first of its block, 1 if it is the second
+--     corner n p x                 along an axis of n: the first of x's block
 --     block_number w h cs x y      the presents of the block with the corner (x, y), as one number from 0 to 15
 --     bit i j e                    what the number e has for the present at offset i in column and j in row
---     rewritten t w h p cs x y     what the cell of column x and row y becomes, from the cells before
+--     rewritten t w h p cs x y     the new value of the cell of column x and row y, from the cells before
 use Rattle.std.specs.Prelude.{ℕ, ◌+◌, ◌*◌, ◌/◌, ◌%◌, ◌^◌, cond, List, ◌==◌, slice_index}
 use Rattle.lattice.specs.Cells.{cell, present, with_present}
 use Rattle.lattice.specs.Torus.{after, before}

@@ -1,4 +1,4 @@
--- The block map's two functions undo each other, keep what a map keeps, and leave the free bits of every cell. Assumes nothing.
+-- The block map's two functions undo each other, keep what a map has to keep, and leave the free bits of every cell. Assumes nothing.
 use Rattle.std.specs.Prelude.{◌≡◌, ℕ, ◌/◌, ◌<◌, List, length, refl}
 use Rattle.std.proofs.Common.{sym, ◌∙◌, ap, arith}
 use Rattle.lattice.specs.Lattice.{Lattice, Whole, Within, SameShape, turned, with_cells}

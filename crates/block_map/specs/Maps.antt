@@ -1,8 +1,8 @@
 -- The block map: the two functions that it means.
 --     table_of m              the table that the map m was made of
---     blocks_rewritten t l    each block of l's phase, by the table t
---     block_forward t         forward by the table t: the blocks, and then the phase
---     block_backward u        back by the inverse table u: the phase, and then the blocks of the new phase
+--     blocks_rewritten t l    l with each block of its phase rewritten by the table t
+--     block_forward t         forward by the table t: rewrites the blocks, and turns the phase
+--     block_backward u        back by the inverse table u: turns the phase, and rewrites the blocks, which are then the ones that forward rewrote
 use Rattle.std.specs.Prelude.{ℕ, List}
 use Rattle.lattice.specs.Cells.{by_place}
 use Rattle.lattice.specs.Lattice.{Lattice, turned, with_cells, if_whole}

@@ -1,10 +1,10 @@
--- The work half done: some blocks are rewritten, the others are as they were. Cited by inner functions alone; what the map
--- means is in Blocks.antt and Maps.antt.
---     Rewrote t w h p done old new    the blocks with a corner (x, y) at which done answers true are rewritten by the table t
+-- The work half done: some blocks are rewritten, and the others are as they were. Cited by inner functions alone; what the map means is in
+-- Blocks.antt and Maps.antt.
+--     Rewrote t w h p done old new    the blocks with a corner (x, y) for which `done` is true are rewritten by the table t, and no others
 --     RewroteAt t s done old new      the same, with sides and phase from the start record s
 --     only X Y                        the block with the corner (X, Y)
---     in_row Y                        the blocks whose corner is in row Y
---     IsCorner n p x                  on one axis, x is the first of its block
+--     in_row Y                        the blocks with their corner in row Y
+--     IsCorner n p x                  along one axis, x is the first of its block
 use Rattle.std.specs.Prelude.{◌≡◌, ℕ, ◌<◌, Bool, cond, ◌&&◌, List, length, ◌==◌}
 use Rattle.lattice.specs.Cells.{cell}
 use Rattle.lattice.specs.Starts.{width_of, height_of, phase_of}

@@ -29,7 +29,7 @@ rewritten_below t w h p cs bytes x y =
     let b = bit_below (offset p x) (offset p y) (slice_index t (block_number w h cs (corner w p x) (corner h p y))) in
     omega arith
 
--- a number below sixteen is made of its four bits
+-- a number below sixteen is made up of its four bits
 pub bits_back : (e : ℕ) → e < 16 → bit 0 0 e + 2 * bit 1 0 e + 4 * bit 0 1 e + 8 * bit 1 1 e ≡ e
 bits_back e h =
     let whole : e / 1 ≡ e = omega arith in
@@ -39,7 +39,7 @@ bits_back e h =
     let eighths = div-add-mod' (e / 4) 2 in
     rw (whole, last) (omega (arith, shr-shr e 1 1, shr-shr e 2 1))
 
--- the bits of a number that is made of four
+-- the bits of a number that is made up of four
 module _ (a b c d : ℕ) (a< : a < 2) (b< : b < 2) (c< : c < 2) (d< : d < 2) where
   pub first_bit : bit 0 0 (a + 2 * b + 4 * c + 8 * d) ≡ a
   first_bit = omega arith
@@ -109,7 +109,7 @@ module _ (t u : List ℕ) (undo : InvertedBy 16 t u) (w h p : ℕ) (wide : Side 
     unfolding e
     entry_back = ap (λ n. slice_index u n) number_became ∙ (undo v v_below).1
 
-    -- the cell at the offsets i and j, where v has its present
+    -- the cell at the offsets i and j is as it was, if v has its present there
     came_back : (x y i j : ℕ) → x < w → y < h → corner w p x ≡ X → corner h p y ≡ Y → offset p x ≡ i → offset p y ≡ j → bit i j v ≡ present (cell w cs x y)
         → rewritten u w h p new x y ≡ cell w cs x y
     came_back x y i j x< y< cx cy ox oy same =

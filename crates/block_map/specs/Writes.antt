@@ -1,7 +1,7 @@
--- The four cells of one block, written in place. Cited by one inner function alone; what the map means is in Blocks.antt and
--- Maps.antt. The places are a for the corner, b right of it, c below it, and d right of c.
+-- The four cells of one block, written in place. Cited by one inner function alone; what the map means is in Blocks.antt and Maps.antt. The
+-- place of the corner is a, and b is to the right of it, c below it, and d to the right of c.
 --     entry_at t cs a b c d         the entry of the table t for the presents at these places
---     block_written t cs a b c d    cs with the presents that this entry says
+--     block_written t cs a b c d    cs with the presents that this entry has
 use Rattle.std.specs.Prelude.{ℕ, ◌+◌, ◌*◌, ◌/◌, ◌%◌, List, slice_index, slice_set}
 use Rattle.lattice.specs.Cells.{present, with_present}
 

@@ -1,4 +1,4 @@
-// Rewriting the blocks of one phase in place.
+//! Rewriting the blocks of one phase in place.
 ghost use Rattle.std.specs.Prelude.{◌≡◌, ◌<◌, length};
 ghost use Rattle.lattice.specs.Cells.{OnlyBelow};
 ghost use Rattle.lattice.specs.Lattice.{Whole};
@@ -10,7 +10,7 @@ ghost use Rattle.block_map.specs.Writes.{block_written};
 
 use lattice::start::Start;
 
-// The four cells of a block, by their places: a is the corner, b right of it, c below it, and d right of c.
+// Rewrites the four cells of a block at these places: a is the corner, b is to the right of it, c is below it, and d is to the right of c.
 fn rewrite_cells(table: &[u8; 16], cells: &mut [u8], a: usize, b: usize, c: usize, d: usize)
     requires a { a < length cells.old }
     requires b { b < length cells.old }
@@ -27,7 +27,7 @@ fn rewrite_cells(table: &[u8; 16], cells: &mut [u8], a: usize, b: usize, c: usiz
     cells[d] = cd / 2 * 2 + entry / 8 % 2;
 }
 
-// The block with its corner at column x and row y; `right` and `below` come after these.
+// Rewrites the block with its corner in column x and row y. The column `right` comes after x, and the row `below` after y.
 fn rewrite_block(
     table: &[u8; 16],
     start: &Start,
@@ -56,8 +56,8 @@ fn rewrite_block(
     );
 }
 
-// The blocks whose upper cells are in row y, and whose lower ones are in the row `below`.
-// At phase 1 the last block goes round the end of the row, and is done apart.
+// Rewrites the blocks whose upper cells are in row y, and whose lower ones are in the row `below`.
+// At phase 1 the last block wraps round the end of the row, and is done separately.
 fn rewrite_row(table: &[u8; 16], start: &Start, cells: &mut [u8], y: usize, below: usize)
     requires whole { Whole (held start.now cells.old) }
     requires row { IsCorner (height_of start.now) (phase_of start.now) y }
@@ -74,7 +74,7 @@ fn rewrite_row(table: &[u8; 16], start: &Start, cells: &mut [u8], y: usize, belo
     }
 }
 
-// All blocks of the start record's phase.
+// Rewrites all blocks of the start record's phase.
 pub(crate) fn rewrite_blocks(table: &[u8; 16], start: &Start, cells: &mut [u8])
     requires whole { Whole (held start.now cells.old) }
     ensures cells { held start.now cells.new ≡ blocks_rewritten table.now (held start.now cells.old) }

@@ -1,4 +1,4 @@
-// The block map: a permutation of the states of two by two cells, on blocks that change with the phase.
+//! Block maps: reversible rules on the Margolus neighbourhood, each given by a permutation of the states of a block.
 #![tactic(auto)]
 
 mod blocks;

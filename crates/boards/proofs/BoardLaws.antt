@@ -1,4 +1,4 @@
--- Of lines: those of a written board are read as it, and a board that lines are read as is written so. Assumes nothing.
+-- The lines of a whole board: reading undoes writing, and writing undoes reading. Assumes nothing.
 use Rattle.std.proofs.Common.{◌≡◌, ℕ, suc, zero, ◌+◌, ◌*◌, ◌≤◌, List, [], ◌∷◌, ◌++◌, length, take, drop, map, flat_map, Ok, Result, arith, refl, sym, ◌∙◌, ap, subst, codes, None}
 use Rattle.std.proofs.Math.Nat.{suc-mul}
 use Rattle.std.proofs.lemmas.List.{append_assoc, take_at, drop_at, length-append, length-take-le, length-drop, take-append-drop, nil_from_length}
@@ -19,7 +19,7 @@ use Rattle.boards.proofs.HexText.{AreBytes, hex_free}
 use Rattle.boards.specs.Boards.{hex, rows, start_line, row_line, board_text}
 use Rattle.boards.specs.Reading.{on_first, start_at, row_at, rows_from, board_from, empty}
 
--- what an answer to the first line was asked of
+-- a result for the first line comes from its fields
 first_was : {A : Type 0} (f : ℕ → List (List ℕ) → Result A RecordFault) (n : ℕ) (ls : List (List ℕ)) (y : A) → on_first f n ls ≡ Ok y → (l : List ℕ) × (more : List (List ℕ)) × (ls ≡ l ∷ more) × (f n (fields l) ≡ Ok y)
 first_was f n [] y is = absurd cc
 first_was f n (l ∷ ls) y is = (l, ls, refl, is)
@@ -100,7 +100,7 @@ row_content cs = parted (codes "row" ∷ flat_map hex cs ∷ [])
 abbrev pub start_content : ℕ → ℕ → ℕ → List ℕ
 start_content w h p = parted (codes "board" ∷ decimal w ∷ decimal h ∷ decimal p ∷ [])
 
--- rows that are written are read
+-- written rows are read back
 fields_of_row : (cs : List ℕ) → AreBytes cs → fields (row_content cs) ≡ codes "row" ∷ flat_map hex cs ∷ []
 fields_of_row cs bytes = fields_of_parted (codes "row") (flat_map hex cs ∷ []) ((refl, (refl, (refl, tt))), (no_tab (flat_map hex cs) (hex_free cs bytes), tt))
 

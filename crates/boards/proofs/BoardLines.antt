@@ -1,4 +1,4 @@
--- The lines of a board: what is written is read, and what is read is written so. Assumes nothing.
+-- The lines of a board: reading undoes writing, and writing undoes reading. Assumes nothing.
 use Rattle.std.proofs.Common.{◌≡◌, ℕ, ◌*◌, ◌≤◌, List, [], ◌∷◌, length, true, Some, None, Option, Ok, Result, arith, refl, sym, ap, subst, flat_map, eqb, codes, ◌&&◌, slice_index_or}
 use Rattle.std.proofs.lemmas.Bool.{eqb-true, eq-eqb, and_parts}
 use Rattle.std.proofs.lemmas.Slice.Eq.{bytes_eq-Decides}
@@ -17,7 +17,7 @@ use Rattle.boards.proofs.HexText.{AreBytes, ReadDigits, digits_read, hex_is_hex,
 use Rattle.boards.specs.Boards.{hex}
 use Rattle.boards.specs.Reading.{line_at, empty, unless_refused, sides_at, numbers_at, start_at, is_hex, cells_of, digits_at, row_at}
 
--- a line that was read with the word w and so many fields behind it
+-- a line that was read with the word w and `count` fields after it
 line_read : {A : Type 0} (w : List ℕ) (count n : ℕ) (fs : List (List ℕ)) (f : List (List ℕ) → Result A RecordFault) (y : A) → line_at w count n fs f ≡ Ok y → (args : List (List ℕ)) × (fs ≡ w ∷ args) × (length args ≡ count) × (f args ≡ Ok y)
 line_read w count n [] f y is = absurd cc
 line_read w count n (v ∷ args) f y is =
@@ -25,7 +25,7 @@ line_read w count n (v ∷ args) f y is =
     let counted = passed (eqb (length args) count) (f args) _ y word.1 in
     (args, ap (λ x. x ∷ args) ((bytes_eq-Decides v w).0 word.0), eqb-true _ _ counted.0, counted.1)
 
--- the start of a board
+-- the first line of a board
 pub record StartRead (fs : List (List ℕ)) (l : Lattice) : Type 0 where
   pub written : fs ≡ codes "board" ∷ decimal l.width ∷ decimal l.height ∷ decimal l.phase ∷ []
   pub accepted : start_refusal l.width l.height l.phase ≡ None
@@ -62,7 +62,7 @@ start_from_fields n fs l is =
 pub start_written : (n w h p : ℕ) → w ≤ 999999 → h ≤ 999999 → p ≤ 999999 → start_refusal w h p ≡ None → start_at n (codes "board" ∷ decimal w ∷ decimal h ∷ decimal p ∷ []) ≡ Ok (empty w h p)
 start_written n w h p a b c ok = rw (number_written (decimal w) w (a, refl), number_written (decimal h) h (b, refl), number_written (decimal p) p (c, refl), ok) refl
 
--- a row
+-- the line of a row
 pub record RowRead (w : ℕ) (fs : List (List ℕ)) (cs : List ℕ) : Type 0 where
   pub written : fs ≡ codes "row" ∷ flat_map hex cs ∷ []
   pub count : length cs ≡ w

@@ -1,4 +1,4 @@
--- What cells the digits of a row are, two digits more each time. Assumes nothing.
+-- The cells that the digits of a row are, two more digits at a time. Assumes nothing.
 use Rattle.std.proofs.Common.{◌≡◌, ℕ, suc, zero, ◌+◌, ◌*◌, ◌<◌, List, [], ◌∷◌, ◌++◌, length, take, get_or, set, arith, refl, sym, ◌∙◌, ap}
 use Rattle.std.proofs.lemmas.List.{length-take-le, take_more, take_more_set, take_all, append_assoc}
 use Rattle.std.specs.Char.{digit_value}
@@ -10,7 +10,7 @@ cells_append n (a ∷ []) ys e = absurd (omega arith)
 cells_append zero (a ∷ b ∷ xs) ys e = absurd (omega arith)
 cells_append (suc n) (a ∷ b ∷ xs) ys e = ap (λ cs. (16 * digit_value a + digit_value b) ∷ cs) (cells_append n xs ys (omega arith))
 
--- two digits more
+-- two more digits
 pub cells_more : (ds : List ℕ) (c : ℕ) → 2 * c + 1 < length ds → cells_of (take (2 * (c + 1)) ds) ≡ cells_of (take (2 * c) ds) ++ ((16 * digit_value (get_or ds (2 * c) 0) + digit_value (get_or ds (2 * c + 1) 0)) ∷ [])
 cells_more ds c inside =
     let one : take (2 * c + 1) ds ≡ take (2 * c) ds ++ (get_or ds (2 * c) 0 ∷ []) = take_more ds (2 * c) 0 (omega arith) in

@@ -1,4 +1,4 @@
--- The digits of cells are read back, and digits that are read are written so. Assumes nothing.
+-- The digits of cells: reading undoes writing, and writing undoes reading. Assumes nothing.
 use Rattle.std.proofs.Common.{◌≡◌, ℕ, suc, zero, ◌+◌, ◌*◌, ◌<◌, ◌/◌, ◌%◌, List, [], ◌∷◌, length, true, false, arith, refl, sym, ◌∙◌, ap, flat_map}
 use Rattle.std.proofs.lemmas.Bool.Decides.{nat_tests}
 use Rattle.std.specs.Char.{digit_value}
@@ -10,7 +10,7 @@ use Rattle.text.specs.Lines.{is_separator}
 use Rattle.boards.specs.Boards.{hex}
 use Rattle.boards.specs.Reading.{is_hex, cells_of}
 
--- each of them is a byte
+-- each number of cs is a byte
 abbrev pub AreBytes : List ℕ → Type 0
 AreBytes cs = AllByRecursion (λ c. c < 256) cs
 

@@ -15,7 +15,7 @@ line_given r l s begins going gives =
     let first : lines_left r ≡ first_line (rest_of r) ∷ lines_left s = lines_after r l s begins going gives in
     (gives, record { text = gives.text; rest = gives.rest; lines = sym (ap (drop 1) first); line = gives.line; begins = gives.fields_read }, first)
 
--- what is asked of the line's fields and its place
+-- what holds for any fields and place of the line holds for those that it has
 pub asked_of_first : {A : Type 0} (f : ℕ → List (List ℕ) → Result A RecordFault) (r : Reader) (l : Line) (s : Reader) (P : Result A RecordFault → Type 0) → fields_read_of r ≡ 0 → LineGiven r (Ok l) s → ((n : ℕ) (fs : List (List ℕ)) → HasFields l fs → StandsFrom l n 1 → P (f n fs)) → P (on_first f (line_of r) (lines_left r))
 asked_of_first f r l s P begins given asked =
     let stands : StandsFrom l (line_of r) 1 = subst (λ (k : ℕ). StandsFrom l (line_of r) (k + 1)) begins given.0.stands in

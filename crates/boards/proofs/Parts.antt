@@ -28,7 +28,7 @@ parts_of_board n bs l e =
     let second = went_on (rows_from first.0.width first.0.height (n + 1) (drop 1 (lines bs))) (λ cs. Ok (with_cells first.0 cs)) l first.2 in
     record { start = first.0; cells = second.0; first = first.1; rows = second.1; is = cc (second.2) }
 
--- the rows that are left behind the line of a board
+-- the rows that are left after the first line of a board
 pub rows_left : (n : ℕ) (bs : List ℕ) (l : Lattice) (r t : Reader) (s : Start) → board n bs ≡ Ok l → text_of r ≡ bs → position_of r ≡ 0 → line_of r ≡ n → on_first start_at (line_of r) (lines_left r) ≡ Ok (held s []) → LineDown r t → rows_from (width_of s) (height_of s) (line_of t) (lines_left t) ≡ Ok l.cells
 rows_left n bs l r t s e text begin line first down =
     let p : BoardParts n (lines bs) l = parts_of_board n bs l e in
@@ -40,6 +40,6 @@ rows_left n bs l r t s e text begin line first down =
     let left : lines_left t ≡ drop 1 (lines bs) = down.lines ∙ ap (drop 1) all in
     ap (λ k. rows_from (width_of s) (height_of s) k (lines_left t)) place ∙ ap (rows_from (width_of s) (height_of s) (n + 1)) left ∙ rows ∙ ap (λ x. Ok x.cells) p.is
 
--- so many cells are in them
+-- the number of cells in rows that were read
 pub cells_counted : (w h n : ℕ) (ls : List (List ℕ)) (cs : List ℕ) → rows_from w h n ls ≡ Ok cs → length cs ≡ h * w
 cells_counted w h n ls cs e = (rows_read_from w h n ls cs e).count

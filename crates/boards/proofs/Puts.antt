@@ -1,4 +1,4 @@
--- The lines of a board, written one piece behind another. Assumes nothing.
+-- The lines of a board, written one piece after another. Assumes nothing.
 use Rattle.std.proofs.Common.{◌≡◌, ℕ, ◌+◌, ◌-◌, ◌*◌, ◌<◌, ◌≤◌, ◌/◌, ◌%◌, List, [], ◌∷◌, ◌++◌, length, get_or, take, drop, flat_map, arith, sym, ◌∙◌, ap, suc, zero, codes, subst}
 use Rattle.std.proofs.Math.Nat.{suc-mul}
 use Rattle.std.proofs.lemmas.Fmt.{decimal_digit, decimal_step}
@@ -85,7 +85,7 @@ row_more_put m cs a w h i end now new row l count room place before is here =
     let text : rows_text w (suc i) cs ≡ rows_text w i cs ++ row_line row = ap (flat_map row_line) (rows_push w i cs) ∙ flat_map-append row_line (rows w i cs) (take w (drop (i * w) cs) ∷ []) ∙ ap (λ x. rows_text w i cs ++ x) (append-nil (row_line (take w (drop (i * w) cs)))) ∙ ap (λ x. rows_text w i cs ++ row_line x) (sym is) in
     put_next m a (rows_text w i cs) (row_line row) now new end before (omega (arith, place, len)) here (omega (arith, room, len, fits, length-row_line row, wide)) ∙ ap (put_at m a) (sym text ∙ ap (λ k. rows_text w k cs) (sym one))
 
--- the same, and where the next row goes, where the row was lent from place i * w on
+-- the same for a row that is borrowed from place i * w on, and where the next row goes
 pub row_step : (m cs : List ℕ) (a w h i end behind : ℕ) (now new : List ℕ) → i < h → length cs ≡ h * w → a + h * (2 * w + 5) ≤ length m → end ≡ a + i * (2 * w + 5) → now ≡ put_at m a (rows_text w i cs) → new ≡ put_at now end (row_line (take ((i + 1) * w - i * w) (drop (i * w) cs))) → behind ≡ end + 2 * length (take ((i + 1) * w - i * w) (drop (i * w) cs)) + 5 → (behind ≡ a + (i + 1) * (2 * w + 5)) × (new ≡ put_at m a (rows_text w (i + 1) cs))
 row_step m cs a w h i end behind now new l count room place before here behind-is =
     let wide : (i + 1) * w - i * w ≡ w = omega (arith, next_place w i) in

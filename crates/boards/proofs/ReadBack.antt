@@ -1,4 +1,4 @@
--- Of a memory with nothing but a board, as `write_board` promises: it is read as the lattice that it was written of. Assumes nothing.
+-- The promise of `write_board`: what is written is read as the lattice that it was written from. Assumes nothing.
 use Rattle.std.proofs.Common.{◌≡◌, ℕ, suc, zero, ◌+◌, ◌*◌, ◌≤◌, List, [], ◌∷◌, ◌++◌, length, take, drop, map, flat_map, true, Ok, Err, Result, IfOk, arith, sym, ◌∙◌, ap}
 use Rattle.std.proofs.Math.Nat.{mul_comm, suc-mul}
 use Rattle.std.proofs.lemmas.List.{append-nil, take_at}

@@ -1,4 +1,5 @@
--- Of texts and memory, as `read_board` promises: a written board is read as itself, and what was read is written so and within the limits. Assumes nothing.
+-- The promise of `read_board`: a written board is read as itself, and a board that was read is within the limits and written as it was.
+-- Assumes nothing.
 use Rattle.std.proofs.Common.{◌≡◌, ℕ, ◌+◌, ◌*◌, ◌≤◌, Bool, true, false, ◌&&◌, cond, leb, List, ◌++◌, length, take, drop, flat_map, None, Some, Ok, Err, Result, IfOk, arith, refl, sym, ◌∙◌, ap, subst}
 use Rattle.std.proofs.Math.Nat.{mul_comm}
 use Rattle.std.proofs.lemmas.Bool.{le-leb, leb-true}
@@ -45,7 +46,7 @@ board_was : (n : ℕ) (bs : List ℕ) (l : Lattice) → board n bs ≡ Ok l → 
 unfolding board
 board_was n bs l is = let good = went_on (whole n bs) (λ _. board_from n (lines bs)) l is in ((whole_accepted n bs good.1).1, board_read_from n (lines bs) l good.2)
 
--- it is within the limits
+-- a board that was read is within the limits
 pub board_within : (n : ℕ) (bs : List ℕ) (l : Lattice) → board n bs ≡ Ok l → Within l
 board_within n bs l is =
     let was : BoardWas (lines bs) l = (board_was n bs l is).1 in

@@ -11,7 +11,7 @@ use Rattle.text.specs.declared.reader.Reader.{Reader}
 use Rattle.boards.specs.Reading.{on_first, row_at, rows_from}
 use Rattle.boards.specs.Steps.{LineDown, LinesDown, lines_left}
 
--- with the cells cs in front
+-- the cells cs and then those of a
 abbrev pub behind : List ℕ → Result (List ℕ) RecordFault → Result (List ℕ) RecordFault
 behind cs a = a >>= λ more. Ok (cs ++ more)
 
@@ -34,7 +34,7 @@ no_row w h r begins = record {
   rows = sym (behind_none (rows_from w (h - 0) (line_of r) (lines_left r)) ∙ ap (λ k. rows_from w k (line_of r) (lines_left r)) (omega arith));
 }
 
--- the rows that are left, if one is
+-- the rows that are left, if there is one
 rows_more : (w h i n : ℕ) (ls : List (List ℕ)) → i < h → rows_from w (h - i) n ls ≡ (on_first (row_at w) n ls >>= λ cs. behind cs (rows_from w (h - (i + 1)) (n + 1) (drop 1 ls)))
 rows_more w h i n ls l = let left : h - i ≡ suc (h - (i + 1)) = omega arith in ap (λ k. rows_from w k n ls) left
 
@@ -65,7 +65,7 @@ next_place w i = let one : i + 1 ≡ suc i = omega arith in ap (λ k. k * w) one
 pub place_within : (w h i : ℕ) → i < h → i * w + w ≤ h * w
 place_within w h i l = let more : i + 1 ≤ h = omega arith in let less : (i + 1) * w ≤ h * w = mul-le-mul_right w more in omega (arith, next_place w i, less)
 
--- the cells of the row are written behind those that were there
+-- the cells of the row are written after those of the rows before it
 pub row_filled : (w h : ℕ) (r : Reader) (i : ℕ) (s t : Reader) (cells row cs : List ℕ) → RowsRead w h r i s (take (i * w) cells) → i < h → on_first (row_at w) (line_of s) (lines_left s) ≡ Ok cs → LineDown s t → row ≡ cs → length cs ≡ w → length cells ≡ h * w → RowsRead w h r (i + 1) t (take ((i + 1) * w) (put_mid (i * w) ((i + 1) * w - i * w) cells row))
 row_filled w h r i s t cells row cs before l first d is count all =
     let len : (i + 1) * w ≡ i * w + length row = omega (arith, next_place w i, count, ap length is) in

@@ -1,4 +1,4 @@
--- A board's line with four fields. Assumes nothing.
+-- The first line of a board, by its four fields. Assumes nothing.
 use Rattle.std.proofs.Common.{◌≡◌, ℕ, List, [], ◌∷◌, true, Result, refl, sym, subst, codes}
 use Rattle.std.specs.Str.{bytes_eq}
 use Rattle.faults.specs.declared.record.RecordFault.{RecordFault}

@@ -1,8 +1,8 @@
--- What the calls that read and write boards answer.
---     BoardFound a r             r is what looking for the board a answers: its start record, and how many bytes its text has; or its fault
---     BoardRead a old new r      r is what reading the board a into a memory of `old` answers, which then holds `new`
---     BeginsWith l bs            bs is a text that begins with the lattice l
---     BoardWritten s cs old new r     r is what writing the lattice of s and the cells cs into a memory of `old` answers, which then holds `new`
+-- What the calls that read and write boards return.
+--     BoardFound a r             looking for the board a returns r: its start record and the length of its text, or its fault
+--     BoardRead a old new r      reading the board a into a memory that holds `old` returns r and leaves `new` there
+--     BeginsWith l bs            bs is a text that begins with the board of l, which is a whole lattice within the limits
+--     BoardWritten s cs old new r     writing the lattice of s and the cells cs into a memory that holds `old` returns r and leaves `new` there
 use Rattle.std.specs.Prelude.{◌≡◌, ◌≢◌, ℕ, ◌*◌, ◌<◌, ◌≤◌, List, ◌++◌, length, drop, Result, Ok, Err, IsTrue}
 use Rattle.faults.specs.declared.record.RecordFault.{RecordFault}
 use Rattle.faults.specs.declared.record.RecordFault.TheVariants.{CellsTooShort}

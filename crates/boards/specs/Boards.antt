@@ -1,7 +1,7 @@
 -- Lattices as text.
 --     hex c               the two hexadecimal digits of the byte c, in lower case
 --     rows w h cs         the cells cs in h rows of w cells
---     start_line w h p    the line of a board with w columns, h rows and phase p
+--     start_line w h p    the first line of a board with w columns, h rows and phase p
 --     row_line cs         the line of a row with the cells cs
 --     rows_text w h cs    the lines of h rows of w cells
 --     board_text l        the text of the lattice l

@@ -1,16 +1,16 @@
 -- What a text says as a board, line by line.
 --     unless_refused n r l    the lattice l, if there is no refusal r of a start record; else the fault of line n
 --     sides_at n w h p        sides and phase w, h, p, if they are those of a start record; else the fault of line n
---     numbers_at n a b c      the same by the fields a, b, c of line n, or its first fault
---     start_at n fs           sides and phase by the fields fs of line n, or its first fault
+--     numbers_at n a b c      the same from the fields a, b, c of line n, or its first fault
+--     start_at n fs           sides and phase from the fields fs of line n, or its first fault
 --     is_hex b                b is the byte of a hexadecimal digit in lower case
 --     cells_of bs             the cells that the digits bs are, two digits each
 --     digits_at w n bs        the w cells that the field bs of line n is, or its fault
---     row_at w n fs           the w cells of a row by the fields fs of line n, or its first fault
+--     row_at w n fs           the w cells of a row from the fields fs of line n, or its first fault
 --     on_first f n ls         f of the fields of the first of the lines ls, which is line n; a fault if there is none
 --     rows_from w h n ls      the cells of h rows, the first on line n, where ls are the lines from there on; or the first fault
 --     board_from n ls         the lattice of the lines ls, the first being line n; or the first fault
---     board n bs              the lattice with which the text bs begins, the first line being line n; or the first fault
+--     board n bs              the lattice at the beginning of the text bs, the first line being line n; or the first fault
 use Rattle.std.specs.Prelude.{ℕ, zero, suc, ◌+◌, ◌*◌, ◌==◌, ◌&&◌, ◌||◌, Bool, List, [], ◌∷◌, ◌++◌, length, drop, Option, Some, None, Result, Ok, Err, slice_index_or, codes, nat_le, if◌then◌else◌}
 use Rattle.std.specs.Char.{digit_value, is_ascii_digit}
 use Rattle.std.specs.List.{list_all}
@@ -26,7 +26,7 @@ use Rattle.text.specs.Lines.{lines, fields}
 use Rattle.text.specs.Numbers.{number_at}
 use Rattle.text.specs.Wholes.{whole}
 
--- a line with the word w has so many fields behind it
+-- f of the fields after the word w, if the line begins with it and has `count` of them
 abbrev pub line_at : {A : Type 0} → List ℕ → ℕ → ℕ → List (List ℕ) → (List (List ℕ) → Result A RecordFault) → Result A RecordFault
 line_at w count n [] f = Err (UnknownWord n)
 line_at w count n (v ∷ args) f = if bytes_eq v w then (if length args == count then f args else Err (FieldCount n)) else Err (UnknownWord n)

@@ -1,4 +1,4 @@
--- Refusals of writing a board.
+-- Why a board is not written.
 --     board_number e     the number of the cause e
 use Rattle.std.specs.Prelude.{ℕ}
 use Rattle.boards.specs.declared.refusal.BoardRefusal.{BoardRefusal}

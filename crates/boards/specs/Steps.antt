@@ -1,12 +1,12 @@
--- What reading a single line of a board says, for a reader that stands at the beginning of a line. Cited by inner functions alone.
---     lines_left r        the lines that are left to read
---     LineDown r s        s is r behind its line
---     LineGiven r a s     r answers a to the question for the next line, and is then s
---     LinesDown k r s     s is r behind k lines
---     RowsChecked w h r a s   r answers a to the question whether h rows of w cells come, and is then s
---     BoardChecked r a s  r answers a to the question whether a board comes, and is then s
---     StartIs a r         r is the start record of the lattice a, or its fault
---     DigitsAre w a r     r are the digits of the w cells a, or their fault
+-- What reading the lines of a board does, for a reader that stands at the beginning of a line. Only inner functions cite it.
+--     lines_left r            the lines that are left to read
+--     LineDown r s            s is r one line further
+--     LineGiven r a s         taking the next line from r returns a and leaves the reader at s
+--     LinesDown k r s         s is r k lines further
+--     RowsChecked w h r a s   checking h rows of w cells from r on returns a and leaves the reader at s
+--     BoardChecked r a s      checking a board from r on returns a and leaves the reader at s
+--     StartIs a r             r is the start record of the lattice a, or its fault
+--     DigitsAre w a r         r are the digits of the w cells a, or their fault
 use Rattle.std.specs.Prelude.{◌≡◌, ℕ, ◌+◌, ◌*◌, List, [], ◌∷◌, length, drop, Result, Ok, Err, IsTrue}
 use Rattle.std.specs.Borrow.{Bor}
 use Rattle.std.specs.List.{list_all}
@@ -44,7 +44,7 @@ abbrev pub DigitsAre : ℕ → Result (List ℕ) RecordFault → Result (Bor (Li
 DigitsAre w a (Ok d) = (a ≡ Ok (cells_of d.now)) × (length d.now ≡ 2 * w) × IsTrue (list_all is_hex d.now)
 DigitsAre w a (Err e) = a ≡ Err e
 
--- behind so many lines
+-- s is r `count` lines further
 pub record LinesDown (count : ℕ) (r s : Reader) : Type 0 where
   pub text : text_of s ≡ text_of r
   pub lines : lines_left s ≡ drop count (lines_left r)

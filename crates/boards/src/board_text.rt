@@ -1,4 +1,4 @@
-// The text of a board, in memory of its own.
+//! The text of a board, in memory of its own.
 ghost use Rattle.std.specs.Prelude.{◌≡◌, ◌+◌, ◌*◌, ◌≤◌, length, take, IfOk, MatchOption};
 ghost use Rattle.boards.specs.Boards.{board_text};
 ghost use Rattle.lattice.specs.Lattice.{Whole};
@@ -15,7 +15,7 @@ fn room_for(start: &Start) -> usize
     18 + start.height() * (2 * start.width() + 5)
 }
 
-// Puts the board into the memory, and answers how many bytes it has.
+// Writes the board into the memory, and returns its length in bytes.
 #[tactic(auto, using(crate::proofs::BoardLengths::board_short))]
 fn put_board(start: &Start, cells: &[u8], memory: &mut [u8]) -> usize
     requires whole { Whole (held start.now cells.now) }
@@ -26,7 +26,7 @@ fn put_board(start: &Start, cells: &[u8], memory: &mut [u8]) -> usize
     write_board(start, cells, memory).unwrap()
 }
 
-// The text of the board, if the cells make a whole lattice. An error is want of memory.
+/// The text of the board, in allocated memory. `None` if the cells are not as many as the lattice has; an error if memory runs out.
 pub fn board_text<A: Allocator>(
     start: &Start,
     cells: &[u8],

@@ -1,4 +1,4 @@
-// The check of a board, before any cell is written.
+//! The check of a board, before any cell is written.
 ghost use Rattle.std.specs.Prelude.{◌≡◌, ◌≤◌, Ok};
 ghost use Rattle.lattice.specs.Lattice.{Lattice};
 ghost use Rattle.text.specs.Readers.{fields_read_of};
@@ -12,7 +12,7 @@ use lattice::start::Start;
 use text::reader::Reader;
 use text::whole::check_whole;
 
-// Goes over so many rows.
+// Checks the lines of `height` rows.
 #[tactic(auto, using(crate::proofs::Rows::no_row, crate::proofs::Rows::bad_row, crate::proofs::Rows::all_rows))]
 fn check_rows(reader: &mut Reader<'_>, width: usize, height: usize) -> Result<(), RecordFault>
     requires begins { fields_read_of reader.old ≡ 0 }
@@ -25,7 +25,7 @@ fn check_rows(reader: &mut Reader<'_>, width: usize, height: usize) -> Result<()
     Ok(())
 }
 
-// Goes over a board.
+// Checks the lines of a board.
 fn check_lines(reader: &mut Reader<'_>) -> Result<Start, RecordFault>
     requires { fields_read_of reader.old ≡ 0 }
     ensures { BoardChecked reader.old result reader.new }
@@ -35,7 +35,7 @@ fn check_lines(reader: &mut Reader<'_>) -> Result<Start, RecordFault>
     Ok(start)
 }
 
-// Looks for the board with which the text begins.
+// Checks the text as a whole, and then the board at its beginning.
 #[tactic(auto, unfolding(crate::specs::Reading::board))]
 fn find_board(text: &[u8], first_line: u32) -> Result<(Start, usize), RecordFault>
     ensures { BoardFound (board first_line text.now) result }
@@ -46,11 +46,11 @@ fn find_board(text: &[u8], first_line: u32) -> Result<(Start, usize), RecordFaul
     Ok((start, reader.position()))
 }
 
-// The start record of the board with which the text begins, and how many bytes the board has; or the first fault.
+/// The start record of the board at the beginning of the text, and the board's length in bytes; or the first fault. More text may follow.
 #[tactic(auto, using(crate::proofs::RoundTrips::written_is_found))]
 pub fn check_board(text: &[u8], first_line: u32) -> Result<(Start, usize), RecordFault>
     ensures answer { BoardFound (board first_line text.now) result }
-    // a board that is written is found
+    // a written board is found
     ensures written { (l : Lattice) → BeginsWith l text.now → BoardFound (Ok l) result }
 {
     find_board(text, first_line)

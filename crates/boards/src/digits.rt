@@ -1,4 +1,4 @@
-// Cells as hexadecimal digits, two for each.
+//! Cells as hexadecimal digits, two digits each.
 ghost use Rattle.std.specs.Prelude.{◌≡◌, ◌*◌, length, IsTrue};
 ghost use Rattle.std.specs.Char.{digit_value};
 ghost use Rattle.std.specs.List.{list_all};
@@ -16,7 +16,7 @@ fn digit(byte: u8) -> u8
     }
 }
 
-// Whether all bytes are hexadecimal digits.
+// Whether all bytes are hexadecimal digits in lower case.
 pub(crate) fn are_hex(bytes: &[u8]) -> bool
     ensures { result ≡ list_all is_hex bytes.now }
 {
@@ -28,7 +28,7 @@ pub(crate) fn are_hex(bytes: &[u8]) -> bool
     true
 }
 
-// Two digits for each cell.
+// Fills in each cell from two digits, the high one first.
 #[tactic(auto, using(crate::proofs::Hex::row_more, crate::proofs::Hex::row_all))]
 pub(crate) fn fill_row(digits: &[u8], row: &mut [u8])
     requires count { length digits.now ≡ 2 * length row.old }

@@ -1,4 +1,4 @@
-// Boards: lattices as text.
+//! Boards: lattices as text.
 #![tactic(auto)]
 
 pub mod board_text;

@@ -1,4 +1,4 @@
-// The lines of a board.
+//! The lines of a board.
 ghost use Rattle.std.specs.Prelude.{◌≡◌, ◌≤◌, ℕ, List, OnOk};
 ghost use Rattle.text.specs.Fields.{bytes_of};
 ghost use Rattle.text.specs.FieldsOfLines.{Stands, HasFields, StandsFrom};
@@ -18,7 +18,7 @@ const BOARD: &[u8] = b"board";
 
 const ROW: &[u8] = b"row";
 
-// The start record of these numbers.
+// The start record with these numbers.
 fn start(width: Field<'_>, height: Field<'_>, phase: Field<'_>) -> Result<Start, RecordFault>
     ensures { (n : ℕ) → Stands width.entry n 2 → Stands height.entry n 3 → Stands phase.entry n 4 → StartIs (numbers_at n (bytes_of width.entry) (bytes_of height.entry) (bytes_of phase.entry)) result }
 {
@@ -29,7 +29,7 @@ fn start(width: Field<'_>, height: Field<'_>, phase: Field<'_>) -> Result<Start,
     }
 }
 
-// The start record that a board's line is, or its first fault.
+// The start record on the first line of a board, or the line's first fault.
 fn start_of(line: Line<'_>) -> Result<Start, RecordFault>
     ensures { (n : ℕ) (fs : List (List ℕ)) → HasFields line.entry fs → StandsFrom line.entry n 1 → StartIs (start_at n fs) result }
 {
@@ -43,7 +43,7 @@ fn start_of(line: Line<'_>) -> Result<Start, RecordFault>
     start(width, height, phase)
 }
 
-// The digits of a row of so many cells.
+// The digits of a row of `width` cells.
 fn row(digits: Field<'_>, width: usize) -> Result<&[u8], RecordFault>
     requires { width ≤ 256 }
     ensures { (n : ℕ) → Stands digits.entry n 2 → DigitsAre width (digits_at width n (bytes_of digits.entry)) result }
@@ -55,7 +55,7 @@ fn row(digits: Field<'_>, width: usize) -> Result<&[u8], RecordFault>
     Ok(bytes)
 }
 
-// The digits that a row's line has, or its first fault.
+// The digits on the line of a row, or the line's first fault.
 fn digits_of(line: Line<'_>, width: usize) -> Result<&[u8], RecordFault>
     requires { width ≤ 256 }
     ensures { (n : ℕ) (fs : List (List ℕ)) → HasFields line.entry fs → StandsFrom line.entry n 1 → DigitsAre width (row_at width n fs) result }
@@ -83,7 +83,7 @@ fn next_line<'t>(reader: &mut Reader<'t>) -> Result<Line<'t>, RecordFault>
     }
 }
 
-// Reads the line of a board.
+// Reads the first line of a board.
 pub(crate) fn read_start(reader: &mut Reader<'_>) -> Result<Start, RecordFault>
     requires { fields_read_of reader.old ≡ 0 }
     ensures given { StartIs (on_first start_at (line_of reader.old) (lines_left reader.old)) result }
@@ -92,7 +92,7 @@ pub(crate) fn read_start(reader: &mut Reader<'_>) -> Result<Start, RecordFault>
     start_of(next_line(reader)?)
 }
 
-// Reads the line of a row: its digits.
+// Reads the line of a row, and returns its digits.
 pub(crate) fn read_row<'t>(reader: &mut Reader<'t>, width: usize) -> Result<&'t [u8], RecordFault>
     requires begins { fields_read_of reader.old ≡ 0 }
     requires narrow { width ≤ 256 }

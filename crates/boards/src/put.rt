@@ -1,10 +1,10 @@
-// Writing bytes into memory, one piece behind another.
+//! Writing bytes into memory, one piece after another.
 ghost use Rattle.std.specs.Prelude.{◌≡◌, ◌+◌, ◌*◌, ◌≤◌, false, length, flat_map};
 ghost use Rattle.std.specs.Fmt.{decimal, digit_glyph};
 ghost use Rattle.boards.specs.Boards.{hex};
 ghost use Rattle.text.specs.Puts.{put_at};
 
-// Writes the bytes to this place, and answers the place behind them.
+// Writes the bytes at this place, and returns the place after them.
 pub(crate) fn put(bytes: &[u8], memory: &mut [u8], at: usize) -> usize
     requires { at + length bytes.now ≤ length memory.old }
     ensures memory { memory.new ≡ put_at memory.old at bytes.now }
@@ -15,7 +15,7 @@ pub(crate) fn put(bytes: &[u8], memory: &mut [u8], at: usize) -> usize
     end
 }
 
-// The same of a number of at most three digits.
+// The same for a number of at most three digits.
 #[tactic(auto, using(crate::proofs::Puts::one_digit, crate::proofs::Puts::two_digits, crate::proofs::Puts::three_digits, crate::proofs::Puts::one_long, crate::proofs::Puts::two_long, crate::proofs::Puts::three_long))]
 pub(crate) fn put_number(n: usize, memory: &mut [u8], at: usize) -> usize
     requires small { n ≤ 999 }
@@ -47,7 +47,7 @@ fn glyph(value: u8) -> u8
     }
 }
 
-// The same of cells, two digits each.
+// The same for cells, two digits each.
 pub(crate) fn put_cells(cells: &[u8], memory: &mut [u8], at: usize) -> usize
     requires { at + 2 * length cells.now ≤ length memory.old }
     ensures memory { memory.new ≡ put_at memory.old at (flat_map hex cells.now) }

@@ -1,4 +1,4 @@
-// Reading a board into memory.
+//! Reading a board into memory.
 ghost use Rattle.std.specs.Prelude.{◌≡◌, ◌+◌, ◌*◌, ◌≤◌, ℕ, List, length, take, Ok, IfOk, IsOkAnd};
 ghost use Rattle.lattice.specs.Lattice.{Lattice};
 ghost use Rattle.lattice.specs.Starts.{width_of, height_of, held};
@@ -47,7 +47,7 @@ fn fill_cells(text: &[u8], first_line: u32, cells: &mut [u8]) -> Result<(), Reco
     fill_rows(&mut reader, start.width(), start.height(), cells)
 }
 
-// Reads the board with which the text begins.
+// Reads the board at the beginning of the text.
 #[tactic(auto, using(crate::proofs::Found::read_refused, crate::proofs::Found::read_short, crate::proofs::Found::read_whole, crate::proofs::Found::read_asked))]
 fn read_into(text: &[u8], first_line: u32, cells: &mut [u8]) -> Result<(Start, usize), RecordFault>
     ensures { BoardRead (board first_line text.now) cells.old cells.new result }
@@ -61,8 +61,8 @@ fn read_into(text: &[u8], first_line: u32, cells: &mut [u8]) -> Result<(Start, u
     Ok((start, end))
 }
 
-// Reads the board with which the text begins into the first cells of the memory, and answers its start record and how many bytes of the
-// text it has. More text may follow.
+/// Reads the board at the beginning of the text into the memory, and returns its start record and its length in bytes. More text may follow.
+/// A memory with too few cells is reported only if nothing is wrong with the text.
 #[tactic(auto, using(crate::proofs::RoundTrips::written_is_read, crate::proofs::RoundTrips::read_is_written))]
 pub fn read_board(
     text: &[u8],
@@ -70,9 +70,9 @@ pub fn read_board(
     cells: &mut [u8],
 ) -> Result<(Start, usize), RecordFault>
     ensures answer { BoardRead (board first_line text.now) cells.old cells.new result }
-    // a board that is written is read as the same start record and the same cells
+    // a written board is read as the same start record and the same cells
     ensures written { (l : Lattice) → BeginsWith l text.now → BoardRead (Ok l) cells.old cells.new result }
-    // what is written of a board that was read are the bytes that were read
+    // a board that was read is written as the bytes that it was read from
     ensures bytes { IfOk result (λ x. take x.1 text.now ≡ board_text (held x.0 (take (width_of x.0 * height_of x.0) cells.new))) }
 {
     read_into(text, first_line, cells)

@@ -1,10 +1,10 @@
-// Why a board is not written.
+//! Why a board is not written.
 ghost use Rattle.std.specs.Prelude.{◌≡◌};
 ghost use Rattle.boards.specs.Refusals.{board_number};
 
 use thiserror::Error;
 
-// Each cause with its number, as docs/REFUSALS.md lists it.
+/// The causes in the order of their checks. Each has the number that docs/REFUSALS.md gives it.
 #[derive(Clone, Copy, PartialEq, Eq, Debug, Error)]
 pub enum BoardRefusal {
     #[error("the cells are not as many as the lattice has")]

@@ -1,4 +1,4 @@
-// Writing a board.
+//! Writing a board.
 ghost use Rattle.std.specs.Prelude.{◌≡◌, ◌+◌, ◌*◌, ◌≤◌, ℕ, length, take, IfOk, Ok};
 ghost use Rattle.lattice.specs.Lattice.{Whole};
 ghost use Rattle.lattice.specs.Starts.{width_of, height_of, phase_of, held};
@@ -11,10 +11,10 @@ use crate::put::{put, put_cells, put_number};
 use crate::refusal::BoardRefusal;
 use lattice::start::Start;
 
-// The line of a board has at most 16 bytes; while it is written, there is room for three digits wherever a number goes.
+// The first line of a board has at most 16 bytes. While it is written, each number needs room for three digits.
 const LINE_ROOM: usize = 18;
 
-// The line of a row.
+// Writes the line of a row, and returns the place after it.
 #[tactic(auto, using(crate::proofs::Puts::row_put))]
 fn put_row(cells: &[u8], memory: &mut [u8], at: usize) -> usize
     requires { at + 2 * length cells.now + 5 ≤ length memory.old }
@@ -26,7 +26,7 @@ fn put_row(cells: &[u8], memory: &mut [u8], at: usize) -> usize
     put(b"\n", memory, end)
 }
 
-// The lines of so many rows.
+// Writes the lines of `height` rows.
 fn put_rows(width: usize, height: usize, cells: &[u8], memory: &mut [u8], at: usize)
     requires narrow { width ≤ 256 }
     requires low { height ≤ 256 }
@@ -40,7 +40,7 @@ fn put_rows(width: usize, height: usize, cells: &[u8], memory: &mut [u8], at: us
     }
 }
 
-// The line of a board.
+// Writes the first line of a board, and returns its length.
 fn put_start(start: &Start, line: &mut [u8]) -> usize
     requires { LINE_ROOM ≤ length line.old }
     ensures memory { line.new ≡ put_at line.old 0 (start_line (width_of start.now) (height_of start.now) (phase_of start.now)) }
@@ -56,7 +56,7 @@ fn put_start(start: &Start, line: &mut [u8]) -> usize
     put(b"\n", line, phase_end)
 }
 
-// Writes a whole lattice, where there is room for it.
+// Writes a whole lattice, if there is room for it.
 #[tactic(auto, using(crate::proofs::WholeBoards::board_too_long, crate::proofs::WholeBoards::board_put))]
 fn write_whole(start: &Start, cells: &[u8], memory: &mut [u8]) -> Result<usize, BoardRefusal>
     requires { Whole (held start.now cells.now) }
@@ -74,11 +74,11 @@ fn write_whole(start: &Start, cells: &[u8], memory: &mut [u8]) -> Result<usize, 
     Ok(len)
 }
 
-// Writes the board into the memory, and answers how many bytes it has.
+/// Writes the board at the beginning of the memory, and returns its length in bytes.
 #[tactic(auto, using(crate::proofs::ReadBack::written_reads_back))]
 pub fn write_board(start: &Start, cells: &[u8], memory: &mut [u8]) -> Result<usize, BoardRefusal>
     ensures answer { BoardWritten start.now cells.now memory.old memory.new result }
-    // what is written is read as the same start record and the same cells, whichever line is its first
+    // what is written is read as the same start record and the same cells, whatever number its first line has
     ensures read_back { IfOk result (λ len. (n : ℕ) → board n (take len memory.new) ≡ Ok (held start.now cells.now)) }
 {
     if !start.is_whole(cells) {

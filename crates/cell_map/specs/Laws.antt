@@ -11,7 +11,7 @@ use Rattle.lattice.proofs.Wholes.{if_whole_keeps, if_whole_undoes}
 use Rattle.tables.specs.Inverses.{InvertedBy}
 use Rattle.cell_map.specs.Maps.{replaced, cell_moved}
 
--- a table whose entries are below 4 reaches the low two bits alone
+-- a table whose entries are below 4 changes presents and pasts alone
 pub only_low : (t : List ℕ) → ((v : ℕ) → v < 4 → slice_index t v < 4) → (old new : List ℕ) → new ≡ map (replaced t) old → OnlyBelow 4 old new
 only_low t small old new e k = rw e (⊎_elim within past (cases_lt k (length old)))
   where

@@ -1,7 +1,7 @@
 -- The cell map: what becomes of one cell, and of a lattice.
 --     table_of m       the table that the map m was made of
---     replaced t c     the cell c with its low two bits replaced by the table t
---     cell_moved t     every cell so, where the lattice is whole; back is the same with the inverse table
+--     replaced t c     the cell c with the present and the past that the table t has for those of c
+--     cell_moved t     every cell replaced so, if the lattice is whole; back is the same with the inverse table
 use Rattle.std.specs.Prelude.{ℕ, ◌+◌, ◌*◌, ◌/◌, ◌%◌, List, map, slice_index}
 use Rattle.lattice.specs.Lattice.{Lattice, with_cells, if_whole}
 use Rattle.tables.specs.declared.table.Table.{Table}

@@ -1,4 +1,4 @@
-// Replacing the low two bits of every cell in place.
+//! Looking up each cell's present and past in a table, in place.
 ghost use Rattle.std.specs.Prelude.{◌≡◌, ℕ, ◌<◌, map, slice_index};
 ghost use Rattle.lattice.specs.Cells.{OnlyBelow};
 ghost use Rattle.cell_map.specs.Maps.{replaced};

@@ -1,4 +1,4 @@
-// The cell map: a permutation of the states of each cell's low two bits.
+//! Cell maps: each cell is changed by itself, by a permutation of the states that its present and past can be in.
 #![tactic(auto)]
 
 mod cells;

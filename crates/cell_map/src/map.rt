@@ -1,4 +1,4 @@
-// A cell table as a map.
+//! A cell table as a map.
 ghost use Rattle.std.specs.Prelude.{◌≡◌};
 ghost use Rattle.lattice.specs.Cells.{OnlyBelow};
 ghost use Rattle.lattice.specs.Starts.{held};
@@ -12,12 +12,14 @@ use lattice::map::Map;
 use lattice::start::Start;
 use tables::cell::CellTable;
 
+/// The cell map of a table. It has no neighbourhood: a cell's new present and past depend on its old ones alone.
 #[derive(Clone, Copy)]
 pub struct CellMap {
     table: CellTable,
 }
 
 impl CellMap {
+    /// The map of this table.
     pub fn new(table: CellTable) -> CellMap
         ensures { table_of result ≡ table }
     {
@@ -32,7 +34,7 @@ impl Map for CellMap {
 
     ghost laws = { λ m. cell_laws (entries_of m.table) (inverse_of m.table) (back m.table) (forth m.table) };
 
-    // Of a cell, only present and past change; the phase stays.
+    // In a cell only present and past change; the phase stays.
     fn advance(&self, start: &mut Start, cells: &mut [u8])
         ensures moved { held start.new cells.new ≡ cell_moved (entries_of (table_of self.now)) (held start.old cells.old) }
         ensures low { OnlyBelow 4 cells.old cells.new }

@@ -1,7 +1,7 @@
 -- The four numbers of every fault: layer, number, line and field.
---     bench_number e                               the number of the cause e
---     reported l n i k                             layer l, number n, line i, field k
---     field_report f, record_report f, run_report f    those of the fault f. A fault from below keeps all four
+--     bench_number e                                   the number of the cause e
+--     reported l n i k                                 layer l, number n, line i, field k
+--     field_report f, record_report f, run_report f    those of the fault f. They stay the same when it becomes a fault of a higher layer
 use Rattle.std.specs.Prelude.{ℕ}
 use Rattle.lattice.specs.Refusals.{start_number}
 use Rattle.faults.specs.declared.field.FieldFault.{FieldFault}

@@ -1,4 +1,5 @@
--- One answer after another, as `?` joins them: the first fault counts.
+-- Results in sequence, as `?` joins them: the first fault is the result.
+--     a >>= f     f of the value of a; or the fault of a, if it is one
 use Rattle.std.specs.Prelude.{Result, Ok, Err}
 
 infixl 10 ◌>>=◌

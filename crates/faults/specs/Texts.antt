@@ -1,4 +1,5 @@
--- What is printed of a fault: the word `fault` and the four numbers in decimal, parted by tabs.
+-- A report as it is printed.
+--     report_text r     the word `fault` and the four numbers of r in decimal, separated by tabs
 use Rattle.std.specs.Prelude.{List, ℕ, ◌++◌, codes}
 use Rattle.std.specs.Fmt.{decimal}
 use Rattle.faults.specs.declared.report.Report.{Report}

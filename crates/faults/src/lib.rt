@@ -1,6 +1,6 @@
-// Faults of texts and of their runs: what is wrong, found by which layer, and where.
-//
-// A field's fault becomes a record's fault, and a record's fault a run's, by `?`; each keeps the whole of what it came from.
+//! Faults of texts and of their runs: what is wrong, which layer found it, and where.
+//!
+//! `?` turns a field's fault into a record's, and a record's fault into a run's. The fault below is kept inside, so nothing of it is lost.
 #![tactic(auto)]
 
 pub mod field;

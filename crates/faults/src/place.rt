@@ -1,6 +1,6 @@
-// Where a field stands in a text.
+//! Where a field stands in a text.
 
-// Fields are counted from 1, and lines from the number that the first has: 1, or more where other lines of a job come before the text.
+/// A line of a text and a field on it. Fields are numbered from 1, and lines from the number that the caller gives to the first one.
 #[derive(Clone, Copy, PartialEq, Eq, Debug)]
 pub struct Place {
     pub line: usize,

@@ -1,4 +1,4 @@
-// Faults of a record, of a board's line, or of a text as a whole.
+//! Faults of a record, of a board's line, or of a text as a whole.
 ghost use Rattle.std.specs.Prelude.{◌≡◌};
 ghost use Rattle.faults.specs.declared.record.RecordFault.TheVariants.{Field};
 
@@ -6,9 +6,10 @@ use crate::field::FieldFault;
 use lattice::refusal::StartRefusal;
 use thiserror::Error;
 
+/// What is wrong with a line or with a text as a whole. If a line or a `close` is missing at the end, `line` is the one after the last.
 #[derive(Clone, Copy, PartialEq, Eq, Debug, Error)]
 pub enum RecordFault {
-    // What a field of the record found.
+    /// The fault of one of the line's fields.
     #[error("{0}")]
     Field(FieldFault),
     #[error("the text is longer than 65,536 bytes")]

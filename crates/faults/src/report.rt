@@ -1,4 +1,4 @@
-// What is told of a fault: the four numbers that docs/TEXT.md lists for each kind.
+//! What is reported of a fault: the four numbers that docs/TEXT.md lists for each kind.
 ghost use Rattle.std.specs.Prelude.{◌≡◌, Some};
 ghost use Rattle.faults.specs.Reports.{field_report, record_report, run_report};
 
@@ -7,12 +7,16 @@ use crate::record::RecordFault;
 use crate::run::RunFault;
 use std::fmt;
 
+/// The four numbers of a fault. Printed, they follow the word `fault` on one line, in this order and separated by tabs; no newline is added.
 #[derive(Clone, Copy, PartialEq, Eq, Debug)]
 pub struct Report {
-    // 1 a field, 2 a record or a whole text, 3 the bench
+    /// Which layer found it: a field (1), a record or a whole text (2), or the bench (3).
     pub layer: u8,
+    /// The cause, as docs/REFUSALS.md numbers it.
     pub number: u8,
+    /// 0 for a fault that is on no line.
     pub line: usize,
+    /// 0 for a fault of no single field.
     pub field: usize,
 }
 

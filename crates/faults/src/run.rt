@@ -1,4 +1,4 @@
-// Faults of the run of a script.
+//! Faults of the run of a script.
 ghost use Rattle.std.specs.Prelude.{◌≡◌};
 ghost use Rattle.faults.specs.Reports.{bench_number};
 ghost use Rattle.faults.specs.declared.run.RunFault.TheVariants.{Record};
@@ -6,7 +6,7 @@ ghost use Rattle.faults.specs.declared.run.RunFault.TheVariants.{Record};
 use crate::record::RecordFault;
 use thiserror::Error;
 
-// Why a bench refuses a call, each cause with its number, as docs/REFUSALS.md lists it.
+/// Why a bench refuses a call. Each cause has the number that docs/REFUSALS.md gives it.
 #[derive(Clone, Copy, PartialEq, Eq, Debug, Error)]
 pub enum BenchRefusal {
     #[error("the cells are not as many as the lattice has")]
@@ -34,12 +34,13 @@ impl From<BenchRefusal> for u8 {
     }
 }
 
+/// Why a run of a script stops before its end.
 #[derive(Clone, Copy, PartialEq, Eq, Debug, Error)]
 pub enum RunFault {
-    // What the check of the text found.
+    /// The text is not a script, so no record was made.
     #[error("{0}")]
     Record(RecordFault),
-    // The bench refuses the record on this line; line 0 is before the first record.
+    /// The bench refuses the record on this line, or the cells, which are checked before all records and count as line 0.
     #[error("line {line}: {cause}")]
     Bench { cause: BenchRefusal, line: usize },
 }

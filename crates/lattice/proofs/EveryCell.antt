@@ -1,4 +1,4 @@
--- What a function of every cell keeps and undoes. Assumes nothing.
+-- What a function of every cell keeps, and what undoes it. Assumes nothing.
 use Rattle.std.proofs.Common.{◌≡◌, ℕ, ◌<◌, List, sym, refl, ap, ◌∙◌}
 use Rattle.lattice.specs.Cells.{cell, by_place}
 use Rattle.lattice.specs.EveryCell.{every_cell}
@@ -17,7 +17,7 @@ module _ (g : ℕ → ℕ → List ℕ → ℕ → ℕ → ℕ) where
   unfolding moved
   shape l w whole = record { width = refl; height = refl; count = length_by_place l.width l.height (g l.width l.height l.cells) ∙ sym whole }
 
-  -- bytes become bytes
+  -- g gives bytes for bytes
   pub every_cell_keeps : ((w h : ℕ) → Side w → Side h → (cs : List ℕ) → Bytes cs → (x y : ℕ) → x < w → y < h → g w h cs x y < 256) → Keeps (every_cell g)
   unfolding moved
   every_cell_keeps small = if_whole_keeps (moved g) shape (λ l w whole. record {
@@ -28,7 +28,7 @@ module _ (g : ℕ → ℕ → List ℕ → ℕ → ℕ → ℕ) where
     bytes = bytes_by_place l.width l.height (side_some l.width w.wide) (g l.width l.height l.cells) (small l.width l.height w.wide w.high l.cells w.bytes);
   })
 
-  -- what g' makes of the new cells are the old ones
+  -- g' turns the new cells back into the old ones
   pub every_cell_undone : (g' : ℕ → ℕ → List ℕ → ℕ → ℕ → ℕ)
       → ((w h : ℕ) → Side w → Side h → (cs : List ℕ) (x y : ℕ) → x < w → y < h → g' w h (by_place w h (g w h cs)) x y ≡ cell w cs x y)
       → UndoneBy (every_cell g) (every_cell g')

@@ -1,6 +1,6 @@
--- Maps that leave the free bits of every cell: they change its present and its past alone. Assumes nothing.
---     FreeBitsStay f       f does, on every lattice within the limits
---     LeavesFreeBits f g   so do f and g, the two functions of a map
+-- Maps that leave the free bits of every cell as they are: they change only presents and pasts. Assumes nothing.
+--     FreeBitsStay f       f leaves them so, on every lattice within the limits
+--     LeavesFreeBits f g   f and g do, the two functions of a map
 use Rattle.std.proofs.Common.{◌≡◌, ℕ, ◌/◌, List, zero, suc, get_or, refl, ap, ◌∙◌}
 use Rattle.lattice.specs.Cells.{cell, OnlyBelow}
 use Rattle.lattice.specs.EveryCell.{every_cell, each_cell}
@@ -32,6 +32,6 @@ pub repeated_free : (f : Lattice → Lattice) → Keeps f → FreeBitsStay f →
 repeated_free f keeps free zero l w k = refl
 repeated_free f keeps free (suc n) l w k = free (repeated n f l) (repeated_within f keeps n l w) k ∙ repeated_free f keeps free n l w k
 
--- of a lattice that is held, where a map that means f led from it
+-- the same for cells in memory that a map with the function f has moved
 pub held_free : (f g : Lattice → Lattice) → FreeBitsStay f → g ≡ f → (s s' : Start) (cs cs' : List ℕ) → Bytes cs → held s' cs' ≡ g (held s cs) → OnlyBelow 4 cs cs'
 held_free f g free means s s' cs cs' bytes moved k = ap (λ l. get_or l.cells k 0 / 4) (moved ∙ ap (λ m. m (held s cs)) means) ∙ free (held s cs) (held_within s cs bytes) k

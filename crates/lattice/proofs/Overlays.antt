@@ -1,10 +1,10 @@
--- Bytes that are copied onto others. Assumes nothing.
+-- Bytes that are copied over others. Assumes nothing.
 use Rattle.std.proofs.Common.{◌≡◌, ℕ, ◌-◌, ◌<◌, ◌≤◌, min, List, ◌++◌, length, take, drop, sym, refl, ◌∙◌, ap₂, ⊎_elim, arith}
 use Rattle.std.proofs.lemmas.List.{take_all, drop_all}
 use Rattle.std.proofs.lemmas.Bool.{cases_lt}
 use Rattle.lattice.specs.Overlays.{laid_over}
 
--- n bytes from the start of each, as a copy of parts of two slices has them
+-- a copy between the first n bytes of two slices
 pub laid_parts : (xs ys : List ℕ) (n : ℕ) → n ≡ min (length xs) (length ys) → take (n - 0) xs ++ drop (n - 0) ys ≡ laid_over xs ys
 laid_parts xs ys n least = ⊎_elim short long (cases_lt (length xs) (length ys))
   where

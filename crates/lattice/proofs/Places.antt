@@ -14,7 +14,7 @@ place_inside w h x y x< y< = mul-add-lt y w x h y< x<
 pub row_ends_inside : (w h y : ℕ) → y < h → y * w + w ≤ w * h
 row_ends_inside w h y y< = let m : (y + 1) * w ≤ h * w = mul-le-mul_right w (omega arith) in omega (arith, add-mul y 1 w, mul_comm w h)
 
--- two cells at one place are one cell
+-- cells at the same place are the same cell
 pub same_place : (w x y u v : ℕ) → x < w → u < w → y * w + x ≡ v * w + u → (x ≡ u) × (y ≡ v)
 same_place w x y u v x< u< e = (
   sym (mod-mul-add y w x x<) ∙ ap (λ k. k % w) e ∙ mod-mul-add v w u u<,
@@ -30,7 +30,7 @@ module _ (w h : ℕ) where
       get_or-map-range_with_len (λ k. f (k % w) (k / w)) 0 (w * h) (y * w + x) (y * w + x) 0 (place_inside w h x y x< y<) (zero-add (y * w + x))
       ∙ ap₂ f (mod-mul-add y w x x<) (div-mul-add y w x x<)
 
-  -- each place is that of a column and a row
+  -- each place has a column and a row
   module _ (some : 0 < w) (k : ℕ) (inside : k < w * h) where
     pub column_inside : k % w < w
     column_inside = mod_below k w some
@@ -45,7 +45,7 @@ module _ (w h : ℕ) where
   by_place_from_cells some f cs long at = fill_by_all (λ k. f (k % w) (k / w)) cs (w * h) 0 long (λ k inside.
       ap (λ j. get_or cs j 0) (sym (place_of some k inside)) ∙ at (k % w) (k / w) (column_inside some k inside) (row_inside some k inside))
 
-  -- what is shown of each column and row holds of each place
+  -- what holds for each column and row holds for each place
   pub only_below_by_place : 0 < w → (n : ℕ) (f : ℕ → ℕ → ℕ) (cs : List ℕ) → length cs ≡ w * h → ((x y : ℕ) → f x y / n ≡ cell w cs x y / n) → OnlyBelow n cs (by_place w h f)
   only_below_by_place some n f cs long same k = ⊎_elim within past (cases_lt k (w * h))
     where

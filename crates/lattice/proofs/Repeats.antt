@@ -1,4 +1,4 @@
--- A function made again and again. Assumes nothing.
+-- A function applied again and again. Assumes nothing.
 use Rattle.std.proofs.Common.{◌≡◌, ℕ, zero, suc, ◌+◌, List, sym, refl, ap, ◌∙◌, add-one}
 use Rattle.lattice.specs.Lattice.{Lattice, Whole, Within, SameShape}
 use Rattle.lattice.specs.Maps.{UndoneBy, Keeps, repeated}
@@ -7,11 +7,11 @@ use Rattle.lattice.specs.Starts.{held, StartOf}
 use Rattle.lattice.specs.declared.start.Start.{Start}
 use Rattle.lattice.proofs.Wholes.{same_shape, same_shape_trans}
 
--- the step of a loop that makes one move a turn
+-- a turn of a loop that makes one move in each turn
 pub one_more : (f : Lattice → Lattice) (n : ℕ) (first here next : Lattice) → here ≡ repeated n f first → next ≡ f here → next ≡ repeated (n + 1) f first
 one_more f n first here next reached moved = moved ∙ ap f reached ∙ rw add-one refl
 
--- the last move is also the first
+-- the extra move may be the last or the first
 repeated_tail : (f : Lattice → Lattice) (n : ℕ) (l : Lattice) → repeated (suc n) f l ≡ repeated n f (f l)
 repeated_tail f zero l = refl
 repeated_tail f (suc n) l = ap f (repeated_tail f n l)
@@ -35,7 +35,7 @@ repeated_keeps f k n = record {
     partial zero l w part = refl
     partial (suc n) l w part = ap f (partial n l w part) ∙ k.partial l w part
 
--- as many moves back as forward lead home
+-- as many moves back as were made forward lead home
 pub repeated_undone : (f g : Lattice → Lattice) → Keeps f → UndoneBy f g → (n : ℕ) (l : Lattice) → Within l → repeated n g (repeated n f l) ≡ l
 repeated_undone f g keeps undoes zero l w = refl
 repeated_undone f g keeps undoes (suc n) l w =
@@ -46,7 +46,7 @@ repeated_undone f g keeps undoes (suc n) l w =
 pub home_again : (f g : Lattice → Lattice) → Keeps f → UndoneBy f g → (n : ℕ) (first far last : Lattice) → Within first → far ≡ repeated n f first → last ≡ repeated n g far → last ≡ first
 home_again f g keeps undoes n first far last w out back = back ∙ ap (repeated n g) out ∙ repeated_undone f g keeps undoes n first w
 
--- what is known at the turning point: `far` is held as the start record s and the cells cs
+-- what is known at the turning point, where the start record s and the cells cs make up `far`
 pub far_start : (far : Lattice) (s : Start) (cs : List ℕ) → held s cs ≡ far → StartOf far s
 far_start far s cs e = ap (λ l. held s l.cells) (sym e) ∙ e
 

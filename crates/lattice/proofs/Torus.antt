@@ -1,4 +1,4 @@
--- Sides, and one step round a side, there and back. Assumes nothing.
+-- Sides, and one step along a side and back. Assumes nothing.
 use Rattle.std.proofs.Common.{◌≡◌, ℕ, ◌<◌, arith}
 use Rattle.std.proofs.lemmas.Bool.Decides.{nat_tests}
 use Rattle.lattice.specs.Limits.{Side}

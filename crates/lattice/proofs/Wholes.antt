@@ -1,4 +1,4 @@
--- Maps that are defined on whole lattices, and leave every other as it is. Assumes nothing.
+-- Maps that are defined on whole lattices, and leave every other lattice as it is. Assumes nothing.
 use Rattle.std.proofs.Common.{◌≡◌, ◌-◌, ◌*◌, ◌≤◌, eqb, length, refl, ap, ◌∙◌, ⊎_elim, arith}
 use mathlib.Core.Path.{subst⁻¹}
 use Rattle.std.proofs.lemmas.Bool.{cond-true, cond-false, cases_eq, eq-eqb, ne_eqb}
@@ -11,7 +11,7 @@ if_whole_yes f l whole = cond-true (eqb (length l.cells) (l.width * l.height)) (
 pub if_whole_no : (f : Lattice → Lattice) (l : Lattice) → (Whole l → ⊥) → if_whole f l ≡ l
 if_whole_no f l part = cond-false (eqb (length l.cells) (l.width * l.height)) (f l) l (ne_eqb (length l.cells) (l.width * l.height) part)
 
--- what is to be shown of f is shown where l is whole, and where f leaves l as it is
+-- what holds of f l for a whole l, and of an l that stays as it is, holds of if_whole f l
 pub by_whole : (f : Lattice → Lattice) (l : Lattice) (P : Lattice → Type 0) → (Whole l → P (f l)) → P l → P (if_whole f l)
 by_whole f l P yes' no' =
     ⊎_elim (λ whole. subst⁻¹ P (if_whole_yes f l whole) (yes' whole)) (λ part. subst⁻¹ P (if_whole_no f l part) no')

@@ -1,10 +1,11 @@
--- The cells of a lattice, and the parts of a cell: bit 0 is its present, bit 1 its past.
+-- The cells of a lattice, which lie row after row, and what the byte of a cell says. Its lowest bit tells whether the cell is set now, which is
+-- its present, and the next bit whether it was set before, which is its past. Six bits are free.
 --     cell w cs x y          the cell of column x and row y, where a row has w cells
 --     present c              the present of the cell c
 --     past c                 its past
 --     with_present c b       c with b for its present
---     by_place w h f         the cells that have f x y at column x and row y
---     OnlyBelow n old new    cells may differ in the bits that weigh less than n, and in no other: n is 2 for the present, 4 for present and past
+--     by_place w h f         the cells that have f x y at column x and row y, in h rows of w cells
+--     OnlyBelow n old new    no cell differs in a bit that weighs n or more: at most presents change if n is 2, and also pasts if n is 4
 use Rattle.std.specs.Prelude.{◌≡◌, ℕ, ◌+◌, ◌*◌, ◌/◌, ◌%◌, List, map, slice_index}
 use Rattle.std.specs.List.{range_with_len}
 

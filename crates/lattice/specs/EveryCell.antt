@@ -1,7 +1,7 @@
--- Functions that give every cell a value from the cells before, and keep the phase. Here g w h cs x y is what the cell of column x and
--- row y becomes: w and h are the sides, cs the cells before.
+-- Functions that compute a new value for every cell from the cells before, and keep the phase. Here g w h cs x y is the new value of the cell
+-- in column x and row y: w and h are the sides, and cs are the cells before.
 --     each_cell g l    the cells of l after that
---     every_cell g     the lattice with these cells, where it is whole
+--     every_cell g     the lattice with these cells, if it is whole; otherwise the lattice as it is
 use Rattle.std.specs.Prelude.{ℕ, List}
 use Rattle.lattice.specs.Cells.{by_place}
 use Rattle.lattice.specs.Lattice.{Lattice, with_cells, if_whole}

@@ -1,12 +1,12 @@
 -- The lattice as a value.
---     Lattice             columns, rows, phase, and the cells row by row: cell (col, row) is at row * width + col
+--     Lattice             columns, rows, phase, and the cells, row after row: row y begins at place y * width
 --     Whole l             l has a cell for each column of each row
---     Bytes cs            each of these cells is one byte
+--     Bytes cs            each of the cells cs is a byte
 --     Within l            sides, area, phase and cells of l are within the limits
 --     SameShape l m       l and m have the same sides and the same number of cells
 --     turned l            l at the other phase
 --     with_cells l cs     l with cs for its cells
---     if_whole f l        f of l where l is whole, and l where it is not
+--     if_whole f l        f of l if l is whole, and l itself otherwise
 use Rattle.std.specs.Prelude.{◌≡◌, ℕ, ◌-◌, ◌*◌, ◌<◌, ◌≤◌, cond, List, length, ◌==◌, slice_index}
 use Rattle.lattice.specs.Limits.{Side, max_area, max_phase}
 
@@ -19,7 +19,7 @@ pub record Lattice : Type 0 where
 abbrev pub Whole : Lattice → Type 0
 Whole l = length l.cells ≡ l.width * l.height
 
--- past the end a list gives 0, so this speaks of the cells alone
+-- past its end a list gives 0, so this says something of the cells alone
 abbrev pub Bytes : List ℕ → Type 0
 Bytes cs = (k : ℕ) → slice_index cs k < 256
 

@@ -1,6 +1,6 @@
--- The limits of every lattice.
+-- The limits on every lattice.
 --     max_side, max_area, max_phase    the largest of each
---     Side n                           n can be the number of columns or of rows: even, and 2 to max_side
+--     Side n                           n may be the number of columns or of rows: it is even, and from 2 to max_side
 --     side_test n                      the same as a test
 use Rattle.std.specs.Prelude.{◌≡◌, ℕ, ◌%◌, ◌≤◌, Bool, ◌&&◌, ◌==◌, nat_le}
 

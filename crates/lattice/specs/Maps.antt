@@ -1,8 +1,8 @@
--- What a map owes. A map means two functions from lattices to lattices, forward and backward.
---     UndoneBy f g      g leads back from wherever f leads, on every lattice within the limits
+-- The laws of a map. What a map means is a pair of functions on lattices, one for a move forward and one for a move back.
+--     UndoneBy f g      g undoes f on every lattice within the limits
 --     Keeps f           f keeps the sides, the number of cells and the limits, and leaves a lattice that is not whole as it is
---     Reversible f g    f and g undo each other, and both keep what a map keeps: the laws of a map with forward f and backward g
---     repeated n f      f made n times
+--     Reversible f g    f and g undo each other and keep all this: the laws of a map that means f forward and g backward
+--     repeated n f      f applied n times
 use Rattle.std.specs.Prelude.{◌≡◌, ℕ, zero, suc}
 use Rattle.lattice.specs.Lattice.{Lattice, Whole, Within, SameShape}
 

@@ -1,6 +1,6 @@
--- Bytes that are copied onto others.
+-- Bytes that are copied over others.
+--     laid_over xs ys     ys after xs is copied over its beginning, as much of it as fits
 use Rattle.std.specs.Prelude.{ℕ, List, ◌++◌, length, take, drop}
 
--- as many bytes of xs as ys has room for, and behind them what ys had there
 abbrev pub laid_over : List ℕ → List ℕ → List ℕ
 laid_over xs ys = take (length ys) xs ++ drop (length xs) ys

@@ -1,7 +1,7 @@
 -- Refusals of a start record: which cause comes first, and the number of each.
 --     start_number e         the number of the cause e
---     start_refusal w h p    the first cause that is met, in the order of the numbers
---     Started w h p r        r is what making a start record of w, h and p answers
+--     start_refusal w h p    the first cause that applies, in the order of the numbers
+--     Started w h p r        making a start record of w, h and p returns r
 use Rattle.std.specs.Prelude.{◌≡◌, ℕ, ◌*◌, cond, ◌&&◌, Some, None, Ok, Err, Option, Result, nat_le}
 use Rattle.lattice.specs.Limits.{side_test, max_area, max_phase}
 use Rattle.lattice.specs.Starts.{width_of, height_of, phase_of}

@@ -1,6 +1,6 @@
--- What a start record holds, and the lattice that it makes with a list of cells.
+-- What a start record holds, and the lattice that it makes up together with a list of cells.
 --     width_of s, height_of s, phase_of s     what s holds
---     held s cs                               the lattice that is held as s and a memory with the cells cs
+--     held s cs                               the lattice that s makes up with a memory that holds the cells cs
 --     StartOf l s                             s has the sides and the phase of l
 use Rattle.std.specs.Prelude.{◌≡◌, ℕ, List}
 use Rattle.lattice.specs.Lattice.{Lattice}

@@ -1,4 +1,4 @@
--- Columns and rows go round: after the last comes the first.
+-- Coordinates on a torus, where the last one is followed by the first.
 --     after n x      the coordinate after x, on a side of n
 --     before n x     the coordinate before x
 use Rattle.std.specs.Prelude.{ℕ, ◌+◌, ◌-◌, cond, ◌==◌}

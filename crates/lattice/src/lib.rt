@@ -1,4 +1,4 @@
-// The lattice and the interface of the maps that move it.
+//! Lattices, and the trait of the maps that move them.
 #![tactic(auto)]
 
 pub mod map;

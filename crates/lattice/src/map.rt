@@ -1,12 +1,12 @@
-// The interface of a map: what moves a lattice forward and back.
-//
-// Whoever adds a map writes an `impl Map` with
-//   - two ghost functions, `forward` and `backward`, that say what the map does to a lattice;
-//   - the proof of the four laws, as the ghost member `laws` that cites a lemma;
-//   - the methods `advance` and `retreat`, which do it.
-// `advance_by` and `retreat_by` come with a body; a map that knows a faster way may bring its own. They are a loop of one line each: a
-// function for both would take a closure over record and cells, and a ghost function that says what the closure does.
-// docs/MAPS.md says in words what a map owes, and specs/Maps.antt defines it.
+//! The trait of a reversible map.
+//!
+//! An implementation consists of
+//!   - the ghost functions `forward` and `backward`, which say what a single move makes of a lattice;
+//!   - the ghost member `laws`, which cites a lemma with the four laws of these two functions;
+//!   - the methods `advance` and `retreat`, which compute them.
+//! `advance_by` and `retreat_by` have bodies already, which a map that knows a faster way may replace. Each is a loop of one line: a function
+//! for both would take a closure over start record and cells, and a ghost function for what the closure does.
+//! docs/MAPS.md describes the laws in words, and specs/Maps.antt defines them.
 ghost use Rattle.std.specs.Prelude.{◌≡◌};
 ghost use Rattle.lattice.specs.Lattice.{Lattice};
 ghost use Rattle.lattice.specs.Maps.{Reversible, repeated};
@@ -14,20 +14,23 @@ ghost use Rattle.lattice.specs.Starts.{held};
 
 use crate::start::Start;
 
+/// A reversible map. Its moves change the start record and the cells in place and are never refused, whatever the number of cells.
 pub trait Map {
+    /// What one move forward makes of a lattice.
     ghost forward: { Self → Lattice → Lattice };
 
+    /// What one move back makes of a lattice.
     ghost backward: { Self → Lattice → Lattice };
 
-    // The lattice that is held becomes forward of it. Never refused, for any number of cells.
+    /// One move forward.
     fn advance(&self, start: &mut Start, cells: &mut [u8])
         ensures { held start.new cells.new ≡ forward self.now (held start.old cells.old) };
 
-    // The lattice that is held becomes backward of it.
+    /// One move back.
     fn retreat(&self, start: &mut Start, cells: &mut [u8])
         ensures { held start.new cells.new ≡ backward self.now (held start.old cells.old) };
 
-    // `count` moves forward.
+    /// `count` moves forward.
     fn advance_by(&self, count: u32, start: &mut Start, cells: &mut [u8])
         ensures { held start.new cells.new ≡ repeated count (forward self.now) (held start.old cells.old) }
     {
@@ -36,7 +39,7 @@ pub trait Map {
         }
     }
 
-    // `count` moves back.
+    /// `count` moves back.
     fn retreat_by(&self, count: u32, start: &mut Start, cells: &mut [u8])
         ensures { held start.new cells.new ≡ repeated count (backward self.now) (held start.old cells.old) }
     {
@@ -45,6 +48,6 @@ pub trait Map {
         }
     }
 
-    // The two functions undo each other, and keep sides, number of cells and limits.
+    /// The two functions undo each other, and both keep the sides, the number of cells and the limits.
     ghost laws: { (m : Self) → Reversible (forward m) (backward m) };
 }

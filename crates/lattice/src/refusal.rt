@@ -1,10 +1,10 @@
-// Why a start record is refused.
+//! Why a start record is refused.
 ghost use Rattle.std.specs.Prelude.{◌≡◌};
 ghost use Rattle.lattice.specs.Refusals.{start_number};
 
 use thiserror::Error;
 
-// Each cause with its number, as docs/REFUSALS.md lists it.
+/// The causes in the order of their checks. Each has the number that docs/REFUSALS.md gives it.
 #[derive(Clone, Copy, PartialEq, Eq, Debug, Error)]
 pub enum StartRefusal {
     #[error("a side is odd, or not in 2 to 256")]

@@ -1,4 +1,4 @@
-// Out and home again.
+//! The way out and home again.
 ghost use Rattle.std.specs.Prelude.{◌≡◌};
 ghost use Rattle.lattice.specs.Maps.{repeated};
 ghost use Rattle.lattice.specs.Overlays.{laid_over};
@@ -7,7 +7,7 @@ ghost use Rattle.lattice.specs.Starts.{held, StartOf};
 use crate::map::Map;
 use crate::start::Start;
 
-// Copies as many bytes as the shorter of the two has.
+// Copies as many bytes as the shorter of the two holds.
 fn lay_over(from: &[u8], onto: &mut [u8])
     ensures { onto.new ≡ laid_over from.now onto.old }
 {
@@ -15,8 +15,8 @@ fn lay_over(from: &[u8], onto: &mut [u8])
     onto[0..count].copy_from_slice(&from[0..count]);
 }
 
-// Makes `count` moves forward and as many back: the lattice is again what it was.
-// `far` is laid over with the cells of the turning point, and the answer is the start record there.
+/// Makes `count` moves forward and then as many back, after which the lattice is what it was. Returns the start record of the turning point.
+/// The cells held there are copied to the beginning of `far`, as many as fit.
 pub fn round_trip<M: Map>(
     map: &M,
     count: u32,

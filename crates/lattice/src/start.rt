@@ -1,4 +1,4 @@
-// A start record: the sides and the phase of a lattice, always within the limits.
+//! Start records: the sides and the phase of a lattice, always within the limits.
 ghost use Rattle.std.specs.Prelude.{◌≡◌, ◌-◌, ◌*◌, ◌≤◌, length, ◌==◌};
 ghost use Rattle.lattice.specs.Limits.{Side, max_area, max_phase, side_test};
 
@@ -10,6 +10,7 @@ const MAX_AREA: u32 = 16_384;
 
 const MAX_PHASE: u32 = 1;
 
+/// The sides and the phase of a lattice whose cells are kept elsewhere. The limits on them are part of the type.
 #[derive(Clone, Copy, PartialEq, Eq, Debug)]
 pub struct Start {
     width: usize,
@@ -21,7 +22,7 @@ pub struct Start {
     ghost phased: { phase ≤ max_phase },
 }
 
-// Room for the cells of every lattice.
+/// How many cells the largest lattice has.
 pub fn max_cells() -> usize
     ensures { result ≡ max_area }
 {
@@ -38,6 +39,7 @@ impl Start {
     ghost use Rattle.lattice.specs.Refusals.{Started};
     ghost use Rattle.lattice.specs.Starts.{width_of, height_of, phase_of};
 
+    /// A start record with this many columns and rows, at this phase; or the first cause against it, in the order of `StartRefusal`.
     pub fn new(width: u32, height: u32, phase: u32) -> Result<Start, StartRefusal>
         ensures { Started width height phase result }
     {
@@ -57,40 +59,42 @@ impl Start {
         })
     }
 
+    /// The number of columns.
     pub fn width(&self) -> usize
         ensures { result ≡ width_of self.now }
     {
         self.width
     }
 
+    /// The number of rows.
     pub fn height(&self) -> usize
         ensures { result ≡ height_of self.now }
     {
         self.height
     }
 
-    // A number, 0 or 1: the definitions calculate with it.
+    /// The phase, 0 or 1. It is a number since the definitions calculate with it.
     pub fn phase(&self) -> u8
         ensures { result ≡ phase_of self.now }
     {
         self.phase
     }
 
-    // How many cells make a whole lattice.
+    /// The number of cells of a whole lattice.
     pub fn cell_count(&self) -> usize
         ensures { result ≡ width_of self.now * height_of self.now }
     {
         self.width * self.height
     }
 
-    // Whether these cells make a whole lattice.
+    /// Whether these cells make a whole lattice.
     pub fn is_whole(&self, cells: &[u8]) -> bool
         ensures { result ≡ (length cells.now == width_of self.now * height_of self.now) }
     {
         cells.len() == self.cell_count()
     }
 
-    // The same sides at the other phase.
+    /// The same sides at the other phase.
     pub fn turned(self) -> Start
         ensures width { width_of result ≡ width_of self }
         ensures height { height_of result ≡ height_of self }

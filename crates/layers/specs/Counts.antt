@@ -1,4 +1,4 @@
--- How many moves one move of `Times` is.
+-- How many moves one move of `Times` consists of.
 --     number_of c    the number that the count c holds
 use Rattle.std.specs.Prelude.{ℕ}
 use Rattle.layers.specs.declared.count.Count.{Count}

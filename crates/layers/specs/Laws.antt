@@ -1,4 +1,4 @@
--- What the layers keep and undo, if their parts do, and that they leave the free bits of every cell, if these do. Assumes nothing.
+-- The layers obey the laws of a map if their parts do, and leave the free bits of every cell if their parts do. Assumes nothing.
 use Rattle.std.specs.Prelude.{ℕ}
 use Rattle.std.proofs.Common.{◌∙◌, ap}
 use Rattle.lattice.specs.Lattice.{Lattice}
@@ -18,7 +18,7 @@ then_keeps f g kf kg = record {
 pub then_undone : (f f' g g' : Lattice → Lattice) → Keeps f → UndoneBy f f' → UndoneBy g g' → UndoneBy (one_then f g) (one_then g' f')
 then_undone f f' g g' kf uf ug l w = ap f' (ug (f l) (kf.within l w)) ∙ uf l w
 
--- through b there and through b' back: what b' undoes at the end, b does at the beginning
+-- in by b and out by b': at the end b' undoes what b does at the beginning
 pub between_keeps : (f b b' : Lattice → Lattice) → Keeps f → Keeps b → Keeps b' → Keeps (between f b b')
 between_keeps f b b' kf kb kb' = then_keeps b (one_then f b') kb (then_keeps f b' kf kb')
 
@@ -44,7 +44,7 @@ module _ {f f' g g' : Lattice → Lattice} where
     backward_keeps = then_keeps g' f' b.backward_keeps a.backward_keeps;
   }
 
-  -- f is seen through g
+  -- f as it looks through g
   pub between_laws : Reversible f f' → Reversible g g' → Reversible (between f g g') (between f' g g')
   between_laws a b = record {
     back_undoes_forward = between_undone f f' g g' a.forward_keeps b.forward_keeps a.back_undoes_forward b.back_undoes_forward b.forward_undoes_back;

@@ -1,4 +1,4 @@
--- What the layers make of the functions of their parts. Reversing needs no definition: forward and backward change places.
+-- What the layers make of the functions of their parts. `Reverse` needs no definition, since it only takes each of the two for the other.
 --     one_then f g           f, and then g
 --     between f b back       b, then f, then back: f as it looks through b
 use Rattle.lattice.specs.Lattice.{Lattice}

@@ -1,5 +1,5 @@
--- The limit of the layer `Times`.
---     max_count    the largest count of moves that one move can be made of
+-- The limit on the layer `Times`.
+--     max_count    the most moves that one move can be made of
 use Rattle.std.specs.Prelude.{ℕ}
 
 abbrev pub max_count : ℕ

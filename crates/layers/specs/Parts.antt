@@ -1,8 +1,8 @@
 -- The parts that a layer is made of.
---     first_of m, second_of m     of `Then`, the map that is moved by first, and the other
---     reversed_of m               of `Reverse`, its map
---     conjugated_of m, by_of m    of `Conjugate`, the map that is conjugated, and the one by which
---     repeated_of m, count_of m   of `Times`, its map and its count
+--     first_of m, second_of m     of `Then`: the map that moves first on the way forward, and the other
+--     reversed_of m               of `Reverse`: its map
+--     conjugated_of m, by_of m    of `Conjugate`: the map that is conjugated, and the one that it is conjugated by
+--     repeated_of m, count_of m   of `Times`: its map and its count
 use Rattle.layers.specs.declared.conjugate.Conjugate.{Conjugate}
 use Rattle.layers.specs.declared.count.Count.{Count}
 use Rattle.layers.specs.declared.reverse.Reverse.{Reverse}

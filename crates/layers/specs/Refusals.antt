@@ -1,6 +1,6 @@
 -- Refusals of a count.
 --     count_number e    the number of the cause e
---     Counted n r       r is what making a count of n answers
+--     Counted n r       making a count of n returns r
 use Rattle.std.specs.Prelude.{◌≡◌, ℕ, ◌<◌, ◌≤◌, Ok, Err, Result}
 use Rattle.layers.specs.Counts.{number_of}
 use Rattle.layers.specs.Limits.{max_count}

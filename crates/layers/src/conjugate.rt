@@ -1,4 +1,4 @@
-// A map seen through another: there by the other, one move, and back by the other.
+//! The layer that shows a map through another: the conjugate of one by the other.
 ghost use Rattle.std.specs.Prelude.{◌≡◌};
 ghost use Rattle.layers.specs.Layers.{between};
 ghost use Rattle.layers.specs.Laws.{between_laws};
@@ -7,6 +7,7 @@ ghost use Rattle.layers.specs.Parts.{conjugated_of, by_of};
 use lattice::map::Map;
 use lattice::start::Start;
 
+/// A map conjugated by another. Forward or back, it moves in the view of that other map, which a move forward of it enters and a move back leaves.
 #[derive(Clone, Copy, Drop)]
 pub struct Conjugate<A, B> {
     inner: A,
@@ -14,6 +15,7 @@ pub struct Conjugate<A, B> {
 }
 
 impl<A, B> Conjugate<A, B> {
+    /// The map `inner`, conjugated by `by`.
     pub fn new(inner: A, by: B) -> Conjugate<A, B>
         ensures inner { conjugated_of result ≡ inner }
         ensures by { by_of result ≡ by }

@@ -1,4 +1,4 @@
-// How many moves the layer `Times` makes: 0 to 1,000.
+//! How many moves the layer `Times` makes for one: 0 to 1,000.
 ghost use Rattle.std.specs.Prelude.{◌≡◌, ◌≤◌};
 ghost use Rattle.layers.specs.Limits.{max_count};
 
@@ -6,6 +6,7 @@ use crate::refusal::CountRefusal;
 
 const MAX_COUNT: u32 = 1_000;
 
+/// A number of moves. The limit on it is part of the type.
 #[derive(Clone, Copy)]
 pub struct Count {
     number: u32,
@@ -16,6 +17,7 @@ impl Count {
     ghost use Rattle.layers.specs.Refusals.{Counted};
     ghost use Rattle.layers.specs.Counts.{number_of};
 
+    /// A count of this many moves; refused above 1,000.
     pub fn new(number: u32) -> Result<Count, CountRefusal>
         ensures { Counted number result }
     {
@@ -25,6 +27,7 @@ impl Count {
         Ok(Count { number })
     }
 
+    /// The number of moves.
     pub fn number(&self) -> u32
         ensures { result ≡ number_of self.now }
     {

@@ -1,4 +1,4 @@
-// Layers: maps that are made of other maps, of any kind.
+//! Layers: maps that are made of other maps, of any kind.
 #![tactic(auto)]
 
 pub mod conjugate;

@@ -1,10 +1,10 @@
-// Why a count is refused.
+//! Why a count is refused.
 ghost use Rattle.std.specs.Prelude.{◌≡◌};
 ghost use Rattle.layers.specs.Refusals.{count_number};
 
 use thiserror::Error;
 
-// Each cause with its number, as docs/REFUSALS.md lists it.
+/// The only cause. It has the number that docs/REFUSALS.md gives it.
 #[derive(Clone, Copy, PartialEq, Eq, Debug, Error)]
 pub enum CountRefusal {
     #[error("the count is above 1,000")]

@@ -1,4 +1,4 @@
-// A map with forward and back exchanged.
+//! The layer that turns a map round.
 ghost use Rattle.std.specs.Prelude.{◌≡◌};
 ghost use Rattle.lattice.proofs.Reversed.{reverse_laws};
 ghost use Rattle.layers.specs.Parts.{reversed_of};
@@ -6,19 +6,21 @@ ghost use Rattle.layers.specs.Parts.{reversed_of};
 use lattice::map::Map;
 use lattice::start::Start;
 
+/// The reverse of a map: it moves a lattice forward by a move back of that map, and back by a move forward.
 #[derive(Clone, Copy, Drop)]
 pub struct Reverse<A> {
     inner: A,
 }
 
 impl<A> Reverse<A> {
+    /// The reverse of this map.
     pub fn new(inner: A) -> Reverse<A>
         ensures { reversed_of result ≡ inner }
     {
         Reverse { inner }
     }
 
-    // The map that is reversed.
+    /// The map that is reversed.
     pub fn inner(&self) -> &A
         ensures { result.now ≡ reversed_of self.now }
     {

@@ -1,4 +1,4 @@
-// One map, and then another.
+//! The layer that joins two maps, one after the other.
 ghost use Rattle.std.specs.Prelude.{◌≡◌};
 ghost use Rattle.layers.specs.Layers.{one_then};
 ghost use Rattle.layers.specs.Laws.{then_laws};
@@ -7,6 +7,7 @@ ghost use Rattle.layers.specs.Parts.{first_of, second_of};
 use lattice::map::Map;
 use lattice::start::Start;
 
+/// Two maps as one. A move forward is a move of the first and then of the second; a move back takes back the second before the first.
 #[derive(Clone, Copy, Drop)]
 pub struct Then<A, B> {
     first: A,
@@ -14,6 +15,7 @@ pub struct Then<A, B> {
 }
 
 impl<A, B> Then<A, B> {
+    /// The map `first`, and then `second`.
     pub fn new(first: A, second: B) -> Then<A, B>
         ensures first { first_of result ≡ first }
         ensures second { second_of result ≡ second }

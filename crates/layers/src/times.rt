@@ -1,4 +1,4 @@
-// A map made several times over.
+//! The layer that repeats a map.
 ghost use Rattle.std.specs.Prelude.{◌≡◌};
 ghost use Rattle.lattice.specs.Maps.{repeated};
 ghost use Rattle.layers.specs.Counts.{number_of};
@@ -9,6 +9,7 @@ use crate::count::Count;
 use lattice::map::Map;
 use lattice::start::Start;
 
+/// A map that makes several moves of another for each of its own. With the count 0 it leaves every lattice as it is.
 #[derive(Clone, Copy, Drop)]
 pub struct Times<A> {
     inner: A,
@@ -16,6 +17,7 @@ pub struct Times<A> {
 }
 
 impl<A> Times<A> {
+    /// The map that makes `count` moves of `inner` for one.
     pub fn new(inner: A, count: Count) -> Times<A>
         ensures inner { repeated_of result ≡ inner }
         ensures count { count_of result ≡ count }

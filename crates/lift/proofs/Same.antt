@@ -1,4 +1,4 @@
--- Rules that answer the same have the same lift. Assumes nothing.
+-- Rules with the same values have the same lift. Assumes nothing.
 use Rattle.std.proofs.Common.{◌≡◌, ℕ, arith}
 use Rattle.lattice.specs.Cells.{cell}
 use Rattle.lattice.specs.EveryCell.{every_cell}

@@ -1,4 +1,4 @@
--- What the two passes over the cells come to. Assumes nothing.
+-- What the two passes over the cells amount to. Assumes nothing.
 use Rattle.std.proofs.Common.{◌≡◌, ℕ, ◌+◌, ◌*◌, ◌/◌, ◌%◌, List, map, get_or, ap, ◌∙◌}
 use Rattle.std.proofs.Math.ListN.{get_or-map}
 use mathlib.Core.List.{map-map}
@@ -32,6 +32,6 @@ module _ (f : ℕ → ℕ) (w h : ℕ) (cs mid new : List ℕ) where
   pub cells_backward : mid ≡ map exchanged cs → new ≡ by_place w h (answered f w h mid) → new ≡ by_place w h (unlifted f w h cs)
   cells_backward first second = second ∙ rw first (λ i. by_place w h (λ x y. xored (exchanged_at (y * w + x) i) (f (around w h (seen i) x y))))
 
--- cells that come out of g, which alters the low two bits of each alone
+-- cells given by a g that changes presents and pasts alone
 pub low_alone : (s : Start) (cs new : List ℕ) → Whole (held s cs) → (g : ℕ → ℕ → ℕ) → ((x y : ℕ) → g x y / 4 ≡ cell (width_of s) cs x y / 4) → new ≡ by_place (width_of s) (height_of s) g → OnlyBelow 4 cs new
 low_alone s cs new whole g high e = rw e (only_below_by_place (width_of s) (height_of s) (side_some (width_of s) (start_wide s)) 4 g cs whole high)

@@ -1,4 +1,4 @@
--- The lift's two functions undo each other, keep what a map keeps, and leave the free bits of every cell. Assumes nothing.
+-- The lift's two functions undo each other, keep what a map has to keep, and leave the free bits of every cell. Assumes nothing.
 use Rattle.std.specs.Prelude.{◌≡◌, ℕ, ◌/◌, ◌<◌, List}
 use Rattle.std.proofs.Common.{refl, ap₂, ◌∙◌}
 use Rattle.lattice.specs.Cells.{cell, by_place}

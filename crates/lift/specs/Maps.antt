@@ -1,9 +1,11 @@
--- The lift of a local rule f: what becomes of one cell, and of a lattice.
+-- The lift of a local rule f, a second-order rule: what becomes of one cell, and of a lattice.
 --     rule_of m                    the rule that the map m is the lift of
---     lifted f w h cs x y          forward, the cell of column x and row y: f of its neighbourhood is XORed into its past, then past and present are exchanged
---     unlifted f w h cs x y        backward: past and present are exchanged, then f is XORed in. All cells being exchanged before, f sees what were the pasts
---     lift_forward f               every cell lifted, where the lattice is whole
---     lift_backward f              every cell unlifted, where it is
+--     lifted f w h cs x y          the cell of column x and row y after a move forward: its new present is its past XOR f of its neighbourhood, and
+--                                  its new past is its present
+--     unlifted f w h cs x y        the same cell after a move back: its new present is its past, and its new past is its present XOR f of the
+--                                  neighbourhood that the pasts make up
+--     lift_forward f               every cell lifted, if the lattice is whole
+--     lift_backward f              every cell unlifted, if it is
 use Rattle.std.specs.Prelude.{ℕ, List}
 use Rattle.lattice.specs.Cells.{cell}
 use Rattle.lattice.specs.EveryCell.{every_cell}

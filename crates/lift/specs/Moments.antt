@@ -1,6 +1,6 @@
 -- What the lift does to the two moments of a cell, its present and its past.
---     xored c a         c with a XORed into its past; of two bits, the XOR is their sum without the carry
---     exchanged c       c with past and present exchanged
+--     xored c a         c with a XORed into its past; for two bits, XOR is the sum without the carry
+--     exchanged c       c with its past for its present, and its present for its past
 --     presents w cs     the presents of the cells cs, by column and row, where a row has w cells
 --     pasts w cs        their pasts
 use Rattle.std.specs.Prelude.{ℕ, ◌+◌, ◌*◌, ◌/◌, ◌%◌, List}

@@ -1,5 +1,6 @@
--- The neighbourhood number of a cell. North is the row above and west the column to the left, round the torus.
---     around w h p x y    the number that the nine bits at and around column x and row y make, on w columns and h rows, where p has a bit for each column and row
+-- The neighbourhood number of a cell on the torus. North is the row above, and west is the column to the left.
+--     around w h p x y    the number with the bits that p has at column x and row y and in the Moore neighbourhood, on w columns and h rows. On a
+--                         side of 2 some cells are neighbours in two directions, and are read in both
 use Rattle.std.specs.Prelude.{ℕ, ◌+◌, ◌*◌}
 use Rattle.lattice.specs.Torus.{after, before}
 

@@ -4,7 +4,7 @@ use Rattle.lattice.specs.Limits.{Side}
 use Rattle.lattice.proofs.Torus.{after_inside, before_inside}
 use Rattle.lift.specs.Neighbours.{around}
 
--- the number reads bits of the lattice alone
+-- the number depends on bits within the lattice alone
 pub around_same : (w h : ℕ) → Side w → Side h → (p q : ℕ → ℕ → ℕ) → ((x y : ℕ) → x < w → y < h → p x y ≡ q x y) → (x y : ℕ) → x < w → y < h → around w h p x y ≡ around w h q x y
 around_same w h wide high p q same x y x< y< =
     let w< = before_inside w wide x x< in

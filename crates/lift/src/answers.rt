@@ -1,4 +1,4 @@
-// XORing a rule's answers into the pasts of all cells in place. Presents stay, so the order of the cells does not matter.
+//! The pass that XORs a rule's values into all pasts, in place. Presents stay, so the order of the cells does not matter.
 ghost use Rattle.std.specs.Prelude.{◌≡◌, ◌+◌, ◌*◌, ◌<◌};
 ghost use Rattle.lattice.specs.EveryCell.{each_cell};
 ghost use Rattle.lattice.specs.Lattice.{Whole};
@@ -13,7 +13,7 @@ use lattice::start::Start;
 use rules::neighbourhood::Neighbourhood;
 use rules::rule::LocalRule;
 
-// The present stays: neighbours that are done later still see it.
+// The present stays, since neighbours that come later still read it.
 fn answer_cell<R: LocalRule>(rule: &R, around: Neighbourhood, cell: u8) -> u8
     ensures { result ≡ xored cell (R.answer rule.now (number_of around)) }
 {
@@ -21,8 +21,8 @@ fn answer_cell<R: LocalRule>(rule: &R, around: Neighbourhood, cell: u8) -> u8
     cell / 4 * 4 + past % 2 * 2 + cell % 2
 }
 
-// The cells of row y. The columns to the west and of the cell itself are kept from the last turns of the loop. By places, and not
-// piece by piece: the cells around, in other rows too, are read from the memory that is written.
+// The cells of row y. The columns to the west and of the cell itself are known from earlier turns of the loop. It goes by places, and not by
+// an iterator over the row, since the neighbours, which are in other rows too, are read from the memory that is written.
 fn answer_row<R: LocalRule>(rule: &R, start: &Start, cells: &mut [u8], y: usize)
     requires whole { Whole (held start.now cells.old) }
     requires row { y < height_of start.now }
@@ -42,7 +42,7 @@ fn answer_row<R: LocalRule>(rule: &R, start: &Start, cells: &mut [u8], y: usize)
     }
 }
 
-// All cells, row by row: no row can be lent alone, since its neighbours are read.
+// All cells, row by row. No row can be borrowed alone, since the rows beside it are read.
 pub(crate) fn answer_cells<R: LocalRule>(rule: &R, start: &Start, cells: &mut [u8])
     requires whole { Whole (held start.now cells.old) }
     ensures { cells.new ≡ each_cell (answered (R.answer rule.now)) (held start.now cells.old) }

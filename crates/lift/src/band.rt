@@ -1,4 +1,4 @@
-// Three neighbouring rows, and the presents that they have in a column.
+//! Three neighbouring rows, and the presents that they have in a column.
 ghost use Rattle.std.specs.Prelude.{◌≡◌, ◌*◌, ◌<◌};
 ghost use Rattle.lattice.specs.Lattice.{Whole};
 ghost use Rattle.lattice.specs.Starts.{width_of, height_of, held};
@@ -23,7 +23,7 @@ pub(crate) struct Band {
 }
 
 impl Band {
-    // The rows at and around row y.
+    // The rows around row y.
     pub(crate) fn around(start: &Start, y: usize) -> Band
         requires row { y < height_of start.now }
         ensures start { result.start ≡ start.now }
@@ -39,7 +39,7 @@ impl Band {
         }
     }
 
-    // The presents of column x, as they count in the west of a neighbourhood.
+    // The presents of column x, with the weights of the western column of a neighbourhood.
     pub(crate) fn column(&self, cells: &[u8], x: usize) -> u16
         requires whole { Whole (held self.now.start cells.now) }
         requires inside { x < width_of self.now.start }

@@ -1,4 +1,4 @@
-// Exchanging past and present of every cell in place.
+//! The pass that turns presents into pasts and pasts into presents, in place.
 ghost use Rattle.std.specs.Prelude.{◌≡◌, map};
 ghost use Rattle.lift.specs.Moments.{exchanged};
 

@@ -1,4 +1,4 @@
-// The lift: a reversible map of any local rule, by Fredkin's second-order construction.
+//! The lift: the second-order rule that belongs to a local rule, and is reversible whatever that rule is.
 #![tactic(auto)]
 
 mod answers;

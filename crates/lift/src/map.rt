@@ -1,4 +1,4 @@
-// A local rule as a map.
+//! A local rule as a map, by the second-order construction.
 ghost use Rattle.std.specs.Prelude.{◌≡◌};
 ghost use Rattle.lattice.specs.Cells.{OnlyBelow};
 ghost use Rattle.lattice.specs.Starts.{held};
@@ -10,12 +10,17 @@ use lattice::map::Map;
 use lattice::start::Start;
 use rules::rule::LocalRule;
 
+/// The second-order map of a local rule: a cell's next state is its past XOR the rule's value for the present neighbourhood.
+///
+/// The construction is E. Fredkin's, as Cellular Automata Machines by T. Toffoli and N. Margolus (1987) describes it. If the book differs from
+/// docs/MAPS.md, that page counts.
 #[derive(Clone, Copy, Drop)]
 pub struct Lift<R> {
     rule: R,
 }
 
 impl<R> Lift<R> {
+    /// The lift of this rule.
     pub fn new(rule: R) -> Lift<R>
         ensures { rule_of result ≡ rule }
     {
@@ -30,7 +35,7 @@ impl<R: LocalRule> Map for Lift<R> {
 
     ghost laws = { λ m. lift_laws (R.LocalRule.answer (rule_of m)) };
 
-    // Of a cell, only present and past change; the phase stays.
+    // In a cell only present and past change; the phase stays.
     fn advance(&self, start: &mut Start, cells: &mut [u8])
         ensures moved { held start.new cells.new ≡ lift_forward (R.LocalRule.answer (rule_of self.now)) (held start.old cells.old) }
         ensures low { OnlyBelow 4 cells.old cells.new }

@@ -1,4 +1,4 @@
-// The two moves of the lift, two passes over the cells each.
+//! The two moves of the lift. Each makes two passes over the cells.
 ghost use Rattle.std.specs.Prelude.{◌≡◌};
 ghost use Rattle.lattice.specs.Cells.{OnlyBelow};
 ghost use Rattle.lattice.specs.EveryCell.{each_cell};

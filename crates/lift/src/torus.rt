@@ -1,4 +1,4 @@
-// One step round a side. Not public: a public call asks for nothing, and for any `x` the sum could overflow.
+//! One step along a side of the torus. It is not public, since a public call has no `requires`, and for any `x` the sum could overflow.
 ghost use Rattle.std.specs.Prelude.{◌≡◌, ◌<◌};
 ghost use Rattle.lattice.specs.Torus.{after, before};
 

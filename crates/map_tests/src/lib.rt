@@ -1,4 +1,4 @@
-// Examples of local rules, lifts, layers, named maps and a user's map, with results worked out by hand or by the model under tools/.
+//! Examples of local rules, lifts, layers, named maps and a user's map, with results worked out by hand or by the model under tools/.
 #![tactic(auto)]
 
 #[cfg(test)]

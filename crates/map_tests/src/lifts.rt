@@ -1,4 +1,4 @@
-// The lift, of a rule that counts and of one without symmetry.
+//! The lift, of an outer totalistic rule and of one without symmetry.
 use crate::runs::{Run, check_runs};
 use lattice::map::Map;
 use lattice::start::Start;

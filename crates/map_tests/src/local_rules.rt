@@ -1,4 +1,4 @@
-// Local rules: neighbourhoods, masks, tables, Life.
+//! Local rules: neighbourhoods, masks, tables, Life.
 use rules::count::CountRule;
 use rules::neighbourhood::Neighbourhood;
 use rules::rule::LocalRule;
@@ -57,7 +57,7 @@ fn the_table_of_life_answers_as_its_masks_do(rt: HostRuntime) -> Result<(), Fail
     let ones = (0..512)
         .filter(|&n| table.answer_to(Neighbourhood::from_bits(n)) == 1)
         .count();
-    // 56 for an absent centre with 3 of 8, and 28 + 56 for a present one with 2 or 3 of 8
+    // 56 where the cell is absent and 3 of 8 are present, and 28 + 56 where it is present and 2 or 3 of 8 are
     assert_eq!(rt; ones, 140);
     Ok(())
 }

@@ -1,4 +1,4 @@
-// The named maps.
+//! The named maps.
 use crate::runs::{Run, check_runs};
 use lattice::map::Map;
 use lattice::start::Start;
@@ -63,7 +63,7 @@ fn block(bits: u8) -> [[u8; 4]; 4] {
     [[bits, bits, 0, 0], [bits, bits, 0, 0], [0; 4], [0; 4]]
 }
 
-// The block of present cells after so many moves; the phase stays.
+// The block of present cells after `steps` moves; the phase stays.
 fn block_after(rt: &impl Abort, steps: u32, phase: u32) -> Result<[[u8; 4]; 4], Fail> {
     let mut held = Start::new(4, 4, phase)?;
     let mut cells = block(1);
@@ -112,7 +112,7 @@ fn block_maps_by_their_names(rt: HostRuntime) -> Result<(), Fail> {
     Ok(())
 }
 
-// The map of a call makes of the sample what the choice of its name makes of it; `map_vectors` holds that against the model.
+// The map that a call makes treats the sample as the choice with its name does, which `map_vectors` compares with the model.
 fn as_chosen(rt: &(impl Abort + Alloc), map: &impl Map, choice: NamedMap) -> Result<(), Fail> {
     for (width, height, phase) in OPENINGS {
         let opening = Start::new(width, height, phase)?;

@@ -1,4 +1,4 @@
-// The line that an outcome is printed as, as the model under tools/ prints it.
+//! The line that an outcome is printed as, as the model under tools/ prints it.
 use lattice::start::Start;
 use named_maps::named::NamedMap;
 use samples::line::Line;

@@ -1,4 +1,4 @@
-// What a map is to make of four by four cells.
+//! What a map has to make of four by four cells.
 use lattice::map::Map;
 use lattice::start::Start;
 use samples::cells::ALL_KINDS;

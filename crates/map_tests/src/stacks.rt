@@ -1,4 +1,4 @@
-// The layers, over maps without symmetry.
+//! The layers, over maps without symmetry.
 use crate::runs::{Run, cells_of, check_runs};
 use block_map::map::BlockMap;
 use cell_map::map::CellMap;

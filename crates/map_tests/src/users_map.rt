@@ -1,4 +1,4 @@
-// The map, the rule and the stacks of the crate `row_shift`, worked by hand.
+//! The map, the rule and the stacks of the crate `row_shift`, worked out by hand.
 use lattice::map::Map;
 use lattice::start::Start;
 use row_shift::map::RowShift;

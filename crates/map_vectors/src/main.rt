@@ -1,4 +1,4 @@
-// Moves lattices of many shapes by maps of every kind and prints digests of them, to be held against an independent model.
+//! Moves lattices of many shapes by maps of every kind and prints digests of them, to be compared with an independent model.
 #![tactic(auto)]
 
 mod maps;

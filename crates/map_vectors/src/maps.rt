@@ -1,4 +1,4 @@
-// The maps that are shown, kind by kind.
+//! The maps that are shown, kind by kind.
 use anyhow::Context;
 use block_map::map::BlockMap;
 use cell_map::map::CellMap;

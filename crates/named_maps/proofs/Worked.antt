@@ -1,4 +1,4 @@
--- The worked examples, computed, and what a move has to do with them. Assumes nothing.
+-- The worked examples, computed, and how they apply to a move of a map. Assumes nothing.
 use Rattle.std.proofs.Common.{◌≡◌, ℕ, List, true, refl, ap, ◌∙◌}
 use Rattle.lattice.specs.Lattice.{Lattice}
 use Rattle.lattice.specs.Maps.{repeated}
@@ -31,14 +31,14 @@ worked_examples = record {
   a_conjugation_goes_in_first = λ p. refl;
 }
 
--- s and cs make the square that an example begins with, and a move leads to s' and cs'
+-- s and cs make up the square that an example begins with, and a move leads to s' and cs'
 pub landed : (f : Lattice → Lattice) (s s' : Start) (n p q : ℕ) (cs cs' ds : List ℕ) → width_of s ≡ n → height_of s ≡ n → phase_of s ≡ p
     → held s' cs' ≡ f (held s cs) → stands_at q ds (held s' cs') ≡ stands_at q ds (f (square n p cs))
 landed f s s' n p q cs cs' ds ew eh ep moved =
     let begun : held s cs ≡ square n p cs = λ i. record { width = ew i; height = eh i; phase = ep i; cells = cs } in
     ap (stands_at q ds) (moved ∙ ap f begun)
 
--- a map that means g comes out on an example where g does
+-- a map that means g comes out on an example if g does
 pub means : (f g : Lattice → Lattice) → f ≡ g → (k n p q : ℕ) (cs ds : List ℕ) → repeated k g (square n p cs) ≡ square n q ds → stands_at q ds (square n q ds) ≡ true
     → stands_at q ds (repeated k f (square n p cs)) ≡ true
 means f g e k n p q cs ds h out = ap (λ moves. stands_at q ds (repeated k moves (square n p cs))) e ∙ ap (stands_at q ds) h ∙ out

@@ -1,4 +1,5 @@
 -- The named maps: their names, and what each means.
+--     all_maps                        all five
 --     name_of n                       the bytes of the name of the map n
 --     map_named bs                    the map with the name bs, if there is one
 --     forward_of n, backward_of n     the two functions of the map n

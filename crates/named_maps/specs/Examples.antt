@@ -1,18 +1,20 @@
--- Worked examples, in the order of docs/MAPS.md: of the named maps, and then such as tell left from right, above from below and there from back. Cells are given row by row.
+-- Worked examples, in the order of docs/MAPS.md: those of the named maps, and then some that tell left from right, above from below and there
+-- from back. Cells are given row after row.
 --     square n p cs          the lattice of n by n cells at phase p
---     one_present            two by two cells, the first of them present; one_marked, the same with the upper free bits set
+--     one_present            two by two cells, the first of them present; one_marked, the same with its upper free bits set
 --     all_kinds              two by two cells with each kind of past and present
 --     in_the_corner c        the cells of four by four that have c in the upper left two by two, and 0 elsewhere
 --     one_below_another c d  the cells of four by four that have c at column 1 and row 1, d below it, and 0 elsewhere
 --     first_and_others c d   the cells of four by four that have c first, and d elsewhere
 --     complement_forward     the cell map of the table complement
 --     wide p cs              the lattice of four by two cells at phase p
---     lopsided               a block table that no turn and no reflection of the square keeps: entry v is the remainder of 7 v + 3 by 16
---     cycle, cycle_back      the cell table that goes one number on, round the four, and the one that goes one back
+--     lopsided               a block table that is changed by each rotation and reflection of the square: entry v is 7 v + 3 modulo 16
+--     cycle, cycle_back      the cell table that goes from each number to the next, and from the last to the first; and the one that goes back
 --     seen_through f         f as it looks through the cell map of cycle
---     ExamplesComeOut        each example comes out as it was worked by hand
+--     ExamplesComeOut        each example comes out as it was worked out by hand
 --     stands_at q ds l       whether the lattice l is at phase q and has the cells ds
---     Lands f n p cs q ds r  if there can be a start record of that square, r says whether f leads from the square with cells cs at phase p to cells ds at phase q; if there cannot, r says no; cited by an inner function alone
+--     Lands f n p cs q ds r  r says whether f leads from the square with the cells cs at phase p to the cells ds at phase q; if the limits permit no
+--                            such square, r says no. Cited by an inner function alone
 use Rattle.std.specs.Prelude.{◌≡◌, ℕ, ◌+◌, ◌*◌, ◌%◌, Bool, false, ◌&&◌, List, [], ◌∷◌, map, None, ◌==◌, ◌≢◌}
 use Rattle.std.specs.List.{range_with_len}
 use Rattle.std.specs.Str.{bytes_eq}

@@ -1,4 +1,4 @@
--- The two functions of each named map undo each other and keep what a map keeps. Assumes nothing.
+-- The two functions of each named map undo each other and keep what a map has to keep. Assumes nothing.
 use Rattle.std.specs.Prelude.{refl}
 use Rattle.lattice.specs.Maps.{Reversible}
 use Rattle.tables.specs.Inverses.{InvertedBy}

@@ -1,8 +1,8 @@
 -- The named maps: what each does to a lattice, forward and backward.
 --     bbm_forward, bbm_backward           the billiard ball model; likewise critters and tron
 --     life2_forward, life2_backward       the lift of Life
---     exchange_forward, exchange_backward the cell map of the table exchange: past and present change places
---     mixed_forward, mixed_backward       three times: bbm, and then life2 as it looks through the exchange; and the way back
+--     exchange_forward, exchange_backward the cell map of the table exchange, which makes pasts of presents and presents of pasts
+--     mixed_forward, mixed_backward       three rounds of bbm, and then life2 as it looks through the exchange; and the way back
 use Rattle.lattice.specs.Lattice.{Lattice}
 use Rattle.lattice.specs.Maps.{repeated}
 use Rattle.tables.specs.Names.{bbm, critters, critters_back, tron, exchange}

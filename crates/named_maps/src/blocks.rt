@@ -1,11 +1,11 @@
-// The block maps of the built-in tables.
+//! The block maps of the built-in tables.
 ghost use Rattle.std.specs.Prelude.{◌≡◌};
 ghost use Rattle.named_maps.specs.Named.{bbm_forward, bbm_backward, critters_forward, critters_backward, tron_forward, tron_backward};
 
 use block_map::map::BlockMap;
 use lattice::map::Map;
 
-// The billiard ball model.
+/// The billiard ball model.
 pub fn bbm() -> BlockMap
     ensures forward { ⟦<BlockMap as Map>⟧.forward result ≡ bbm_forward }
     ensures backward { ⟦<BlockMap as Map>⟧.backward result ≡ bbm_backward }
@@ -13,6 +13,7 @@ pub fn bbm() -> BlockMap
     BlockMap::new("bbm".parse().unwrap())
 }
 
+/// The block map of the table Critters.
 pub fn critters() -> BlockMap
     ensures forward { ⟦<BlockMap as Map>⟧.forward result ≡ critters_forward }
     ensures backward { ⟦<BlockMap as Map>⟧.backward result ≡ critters_backward }
@@ -20,6 +21,7 @@ pub fn critters() -> BlockMap
     BlockMap::new("critters".parse().unwrap())
 }
 
+/// The block map of the table Tron.
 pub fn tron() -> BlockMap
     ensures forward { ⟦<BlockMap as Map>⟧.forward result ≡ tron_forward }
     ensures backward { ⟦<BlockMap as Map>⟧.backward result ≡ tron_backward }

@@ -1,4 +1,4 @@
-// The worked examples, made with the maps themselves.
+//! The worked examples, made with the maps themselves.
 ghost use Rattle.std.specs.Prelude.{◌≡◌, true};
 ghost use Rattle.lattice.specs.Maps.{repeated};
 ghost use Rattle.named_maps.specs.Examples.{ExamplesComeOut, Lands, complement_forward};
@@ -49,7 +49,7 @@ fn critters_lands() -> bool
     forward & back
 }
 
-// A block of four cells in the corner of four by four: each of them only present, only past, and both.
+// Four by four cells with a block in one corner: each cell of the block is only present, only past, or both.
 const PRESENT: [u8; 16] = [1, 1, 0, 0, 1, 1, 0, 0, 0, 0, 0, 0, 0, 0, 0, 0];
 
 const PAST: [u8; 16] = [2, 2, 0, 0, 2, 2, 0, 0, 0, 0, 0, 0, 0, 0, 0, 0];
@@ -89,7 +89,7 @@ fn complement_lands() -> bool
     )
 }
 
-// Whether the maps do on the worked examples what was worked out by hand: they do. That the definitions do is said beside it.
+/// Makes the worked examples with the maps, and returns whether each result is the one that was worked out by hand.
 pub fn examples_come_out() -> bool
     ensures definitions { ExamplesComeOut }
     ensures maps { result ≡ true }

@@ -1,4 +1,4 @@
-// The maps that have a name: block maps, the lift of Life, and a stack of both.
+//! The maps that have a name: block maps, the lift of Life, and a stack of both.
 #![tactic(auto)]
 
 pub mod blocks;

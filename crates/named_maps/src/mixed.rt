@@ -1,4 +1,4 @@
-// A stack of a block map, a lift and a cell map.
+//! A stack of a block map, a lift and a cell map.
 ghost use Rattle.std.specs.Prelude.{◌≡◌};
 ghost use Rattle.layers.specs.Counts.{number_of};
 ghost use Rattle.named_maps.specs.Named.{exchange_forward, exchange_backward, mixed_forward, mixed_backward};
@@ -15,6 +15,7 @@ use layers::times::Times;
 use lift::map::Lift;
 use rules::table::TableRule;
 
+/// The type of the stack that `mixed` makes.
 pub type Mixed = Times<Then<BlockMap, Conjugate<Lift<TableRule>, CellMap>>>;
 
 // The cell map that exchanges past and present.
@@ -31,7 +32,8 @@ fn three() -> Count
     Count::new(3).unwrap()
 }
 
-// Three times: the billiard ball model, and then the lift of Life as it looks with past and present exchanged.
+/// A stack of both kinds. A move is made of three rounds: the billiard ball model, and then the lift of Life as it looks with past and present
+/// exchanged.
 pub fn mixed() -> Mixed
     ensures forward { ⟦<Mixed as Map>⟧.forward result ≡ mixed_forward }
     ensures backward { ⟦<Mixed as Map>⟧.backward result ≡ mixed_backward }

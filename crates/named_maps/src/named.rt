@@ -1,4 +1,4 @@
-// One of the named maps, chosen when the program runs.
+//! One of the named maps, chosen when the program runs.
 ghost use Rattle.std.specs.Prelude.{◌≡◌};
 ghost use Rattle.lattice.specs.Cells.{OnlyBelow};
 ghost use Rattle.lattice.specs.Starts.{held};
@@ -11,6 +11,7 @@ use crate::mixed::mixed;
 use lattice::map::Map;
 use lattice::start::Start;
 
+/// A named map that is chosen when the program runs. docs/MAPS.md says what each of them is.
 #[derive(Clone, Copy, PartialEq, Eq, Debug)]
 pub enum NamedMap {
     Bbm,
@@ -29,7 +30,7 @@ const ALL: [NamedMap; 5] = [
 ];
 
 impl NamedMap {
-    // The name of the map.
+    /// The name of the map, as a job has it.
     pub fn name(self) -> &'static str
         ensures { result.now ≡ name_of self }
     {
@@ -42,7 +43,7 @@ impl NamedMap {
         }
     }
 
-    // The map that has this name.
+    /// The map with this name, byte for byte. `None` if there is none.
     pub fn of(name: &[u8]) -> Option<NamedMap>
         ensures { result ≡ map_named name.now }
     {
@@ -63,7 +64,7 @@ impl Map for NamedMap {
 
     ghost laws = { laws_of };
 
-    // Of a cell, only present and past change.
+    // In a cell only present and past change.
     fn advance(&self, start: &mut Start, cells: &mut [u8])
         ensures moved { held start.new cells.new ≡ forward_of self.now (held start.old cells.old) }
         ensures low { OnlyBelow 4 cells.old cells.new }

@@ -1,4 +1,4 @@
-// Reads the files that its arguments name, each as a script or as a board, and prints what they say or what is wrong with them.
+//! Reads the files that its arguments name, each as a script or as a board, and prints what they say or what is wrong with them.
 #![tactic(auto)]
 
 mod shown;

@@ -1,4 +1,4 @@
-// What is printed of one text.
+//! What is printed for one text.
 use anyhow::Context;
 use boards::board_text::board_text;
 use boards::read::read_board;

@@ -9,7 +9,7 @@ use Rattle.row_shift.specs.Laws.{comes_inside}
 use Rattle.row_shift.specs.Shifts.{comes_from}
 use Rattle.row_shift.specs.declared.way.Way.{Way}
 
--- the rows before row n are moved so, and the others are as they were
+-- the rows before row n are moved, and the others are as they were
 pub record RowsShifted (way : Way) (w n : ℕ) (old new : List ℕ) : Type 0 where
   pub done : (y : ℕ) → y < n → (x : ℕ) → x < w → cell w new x y ≡ cell w old (comes_from way w x) y
   pub rest : (y : ℕ) → n ≤ y → (x : ℕ) → x < w → cell w new x y ≡ cell w old x y

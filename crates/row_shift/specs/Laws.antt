@@ -1,4 +1,4 @@
--- The two shifts undo each other and keep what a map keeps. Assumes nothing.
+-- The two shifts undo each other and keep what a map has to keep. Assumes nothing.
 use Rattle.std.specs.Prelude.{◌≡◌, ℕ, ◌<◌}
 use Rattle.std.proofs.Common.{◌∙◌, ap}
 use Rattle.lattice.specs.Cells.{cell}
@@ -21,7 +21,7 @@ pub comes_inside : (way : Way) (w : ℕ) → Side w → (x : ℕ) → x < w → 
 comes_inside East = before_inside
 comes_inside West = after_inside
 
--- a cell that comes from one column, and is then taken from there, is at its old place
+-- a cell that is moved one way and then the other is at its old place
 shifted_undone : (way back : Way) → ((w : ℕ) → Side w → (x : ℕ) → x < w → comes_from way w (comes_from back w x) ≡ x) → UndoneBy (every_cell (shifted way)) (every_cell (shifted back))
 shifted_undone way back home = every_cell_undone (shifted way) (shifted back) (λ w h wide high cs x y x< y<.
     cell_by_place w h (shifted way w h cs) (comes_from back w x) y (comes_inside back w wide x x<) y< ∙ ap (λ u. cell w cs u y) (home w wide x x<))

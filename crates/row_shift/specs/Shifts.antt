@@ -1,8 +1,8 @@
 -- The row shift: what becomes of one cell, and of a lattice.
 --     comes_from way w x        the column from which the cell of column x comes, in a row of w cells
---     shifted way w h cs x y    what the cell of column x and row y becomes, from the cells cs before
---     row_forward               every row one cell east, where the lattice is whole
---     row_backward              every row one cell west, where it is
+--     shifted way w h cs x y    the new value of the cell of column x and row y, from the cells cs before
+--     row_forward               every row moved one cell east, if the lattice is whole
+--     row_backward              every row moved one cell west, if it is
 use Rattle.std.specs.Prelude.{ℕ, List}
 use Rattle.lattice.specs.Cells.{cell}
 use Rattle.lattice.specs.EveryCell.{every_cell}

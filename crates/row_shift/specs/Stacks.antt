@@ -3,7 +3,7 @@
 --     staggered_backward u   the same with the blocks back by u
 --     drifting_forward t     the blocks by t, and then a shift to the west
 --     drifting_backward u    a shift to the east, and then the blocks back by u
---     windy_forward          the lift of the rule that asks the neighbour in the west, and then a shift to the east
+--     windy_forward          the lift of the rule whose value is the present of the western neighbour, and then a shift to the east
 use Rattle.std.specs.Prelude.{ℕ, List}
 use Rattle.block_map.specs.Maps.{block_forward, block_backward}
 use Rattle.lattice.specs.Lattice.{Lattice}

@@ -1,4 +1,4 @@
-// A map from outside the library: every row moved by one cell, and stacks of it with the library's maps.
+//! A map from outside the library: every row moved by one cell, and stacks of it with the library's maps.
 #![tactic(auto)]
 
 pub mod map;

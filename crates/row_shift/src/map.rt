@@ -1,4 +1,4 @@
-// The row shift as a map.
+//! The row shift as a map.
 ghost use Rattle.std.specs.Prelude.{◌≡◌};
 ghost use Rattle.row_shift.specs.Shifts.{row_forward, row_backward};
 ghost use Rattle.row_shift.specs.Laws.{shift_laws};
@@ -8,11 +8,12 @@ use crate::way::Way;
 use lattice::map::Map;
 use lattice::start::Start;
 
+/// The map that moves every row by one cell round the torus: to the east on the way forward.
 #[derive(Clone, Copy)]
 pub struct RowShift;
 
 impl RowShift {
-    // There is one row shift: it holds nothing.
+    /// The row shift. There is only one, since it holds nothing.
     pub fn new() -> RowShift
         ensures { result ≡ record {} }
     {

@@ -1,4 +1,4 @@
-// Stacks of the row shift with block maps.
+//! Stacks of the row shift with block maps.
 ghost use Rattle.std.specs.Prelude.{◌≡◌};
 ghost use Rattle.lattice.specs.Maps.{repeated};
 ghost use Rattle.lattice.specs.Overlays.{laid_over};
@@ -16,7 +16,7 @@ use layers::reverse::Reverse;
 use layers::then::Then;
 use tables::block::BlockTable;
 
-// The block map of a table, seen through the shift: its blocks are moved by one column.
+/// The block map of a table, seen through the shift: its blocks are moved by one column.
 pub fn staggered(table: BlockTable) -> Conjugate<BlockMap, RowShift>
     ensures forward { ⟦<Conjugate<BlockMap, RowShift> as Map>⟧.forward result ≡ staggered_forward (entries_of table) }
     ensures backward { ⟦<Conjugate<BlockMap, RowShift> as Map>⟧.backward result ≡ staggered_backward (inverse_of table) }
@@ -24,7 +24,7 @@ pub fn staggered(table: BlockTable) -> Conjugate<BlockMap, RowShift>
     Conjugate::new(BlockMap::new(table), RowShift::new())
 }
 
-// The block map of a table, in a frame that goes one cell east with each move.
+/// The block map of a table, in a frame that goes one cell east with each move.
 pub fn drifting(table: BlockTable) -> Then<BlockMap, Reverse<RowShift>>
     ensures forward { ⟦<Then<BlockMap, Reverse<RowShift>> as Map>⟧.forward result ≡ drifting_forward (entries_of table) }
     ensures backward { ⟦<Then<BlockMap, Reverse<RowShift>> as Map>⟧.backward result ≡ drifting_backward (inverse_of table) }
@@ -32,14 +32,14 @@ pub fn drifting(table: BlockTable) -> Then<BlockMap, Reverse<RowShift>>
     Then::new(BlockMap::new(table), Reverse::new(RowShift::new()))
 }
 
-// `count` moves forward by the drifting block map of a table.
+/// Makes `count` moves forward by the drifting block map of a table.
 pub fn drift_by(table: BlockTable, count: u32, start: &mut Start, cells: &mut [u8])
     ensures { held start.new cells.new ≡ repeated count (drifting_forward (entries_of table)) (held start.old cells.old) }
 {
     drifting(table).advance_by(count, start, cells);
 }
 
-// Out and home again by the staggered block map of a table.
+/// Goes out and home again by the staggered block map of a table, as `round_trip` does by any map.
 pub fn staggered_round_trip(
     table: BlockTable,
     count: u32,

@@ -1,4 +1,4 @@
-// A local rule from outside the library, and its lift in a stack with the row shift.
+//! A local rule from outside the library, and its lift in a stack with the row shift.
 ghost use Rattle.std.specs.Prelude.{◌≡◌};
 ghost use Rattle.lattice.specs.Maps.{repeated};
 ghost use Rattle.lattice.specs.Starts.{held};
@@ -14,7 +14,7 @@ use lift::map::Lift;
 use rules::neighbourhood::Neighbourhood;
 use rules::rule::LocalRule;
 
-// A cell's answer is the present of its neighbour in the west.
+/// The local rule whose value is the present of the neighbour to the west.
 #[derive(Clone, Copy)]
 pub struct WestWind;
 
@@ -28,7 +28,7 @@ impl LocalRule for WestWind {
     }
 }
 
-// `count` moves forward by the lift of the wind, each followed by a shift of every row.
+/// Makes `count` moves forward by the lift of the wind, each followed by a shift of every row.
 pub fn blow(count: u32, start: &mut Start, cells: &mut [u8])
     ensures { held start.new cells.new ≡ repeated count windy_forward (held start.old cells.old) }
 {

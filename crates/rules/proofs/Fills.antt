@@ -1,4 +1,4 @@
--- A list of 512 bits is filled. Assumes nothing.
+-- A fill with 512 bits is not refused. Assumes nothing.
 use Rattle.std.proofs.Common.{◌≡◌, List, ℕ, length, refl, arith}
 use Rattle.std.specs.Prelude.{Result, Ok, Err, IsOk}
 use Rattle.tables.specs.Refusals.{Below}

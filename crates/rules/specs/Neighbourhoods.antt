@@ -1,5 +1,5 @@
--- Neighbourhood numbers: nine presents, a bit each, in the order in which one reads. Bits 0 to 2 are the row above, bits 3 to 5 the
--- cell's own row, bits 6 to 8 the row below, each row from west to east; so bit 4 is the cell itself.
+-- Neighbourhood numbers: the presents of the Moore neighbourhood and of the cell itself, a bit each, in reading order. Bits 0 to 2 are the row
+-- above, bits 3 to 5 the cell's own row, bits 6 to 8 the row below, each row from west to east; so bit 4 is the cell itself.
 --     number_of a     the number that a holds
 --     bit k n         bit k of the number n
 --     centre n        the present of the cell itself

@@ -1,7 +1,7 @@
 -- Refusals of local rules: which cause comes first, and the number of each.
 --     rule_number e               the number of the cause e
---     Masked b s r                r is what making a count rule of the masks b and s answers
---     TableFilled es new same r   r is what a fill with es answers. The entries are then `new`; where r refuses, `same` holds
+--     Masked b s r                making a count rule of the masks b and s returns r
+--     TableFilled es new same r   a fill with es returns r. The entries are then `new`; if r is a refusal, `same` holds
 use Rattle.std.specs.Prelude.{◌≡◌, ℕ, true, false, ◌&&◌, List, length, Ok, Err, Result, ◌≢◌, nat_le}
 use Rattle.tables.specs.Refusals.{Below, LargeIn}
 use Rattle.rules.specs.Limits.{neighbourhoods, max_mask}

@@ -1,12 +1,13 @@
--- What local rules answer to a neighbourhood number.
---     Binary f                     f answers 0 or 1 to every neighbourhood
---     count_answer b s n           the count rule: bit k of the birth mask b for an absent cell with k present neighbours, of the survival mask s for a present one
---     life                         the rule of Life: birth at 3 neighbours, survival at 2 or 3
+-- Local rules, as functions of the neighbourhood number.
+--     Binary f                     f is 0 or 1 for every neighbourhood
+--     count_answer b s n           the outer totalistic rule with the masks b and s: the number of present neighbours picks a bit, of b if the cell
+--                                  itself is absent (the cell is born or not) and of s if it is present (it survives or not)
+--     life                         Life, B3/S23: birth with 3 present neighbours, survival with 2 or 3
 --     birth_of r, survival_of r    the masks of the count rule r
 --     entries_of r                 the entries of the table rule r
 --     entry_of es n                entry n of a table
 --     table_answer r n             the table rule: entry n of its table
---     SameAnswers f g              f and g answer the same to every neighbourhood
+--     SameAnswers f g              f and g are the same for every neighbourhood
 use Rattle.std.specs.Prelude.{◌≡◌, ℕ, ◌<◌, cond, List, ◌==◌, slice_index}
 use Rattle.rules.specs.Limits.{neighbourhoods}
 use Rattle.rules.specs.Neighbourhoods.{bit, centre, neighbours}

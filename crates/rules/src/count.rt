@@ -1,4 +1,4 @@
-// The count rule: only the number of present neighbours counts.
+//! Count rules, known as outer totalistic: of the neighbours only the number of those that are present matters.
 ghost use Rattle.std.specs.Prelude.{◌≤◌};
 ghost use Rattle.rules.specs.Limits.{max_mask};
 ghost use Rattle.std.proofs.Common.{rules};
@@ -9,6 +9,8 @@ use crate::rule::LocalRule;
 
 const MAX_MASK: u32 = 511;
 
+/// An outer totalistic rule: a set of neighbour counts at which an absent cell is born, and one at which a present cell survives. Each set is a
+/// mask with a bit for each count from 0 to 8. Life, written B3/S23, has birth 8 and survival 12.
 #[derive(Clone, Copy)]
 pub struct CountRule {
     birth: u16,
@@ -20,6 +22,7 @@ pub struct CountRule {
 impl CountRule {
     ghost use Rattle.rules.specs.Refusals.{Masked};
 
+    /// The rule with these masks. Refused if one of them is above 511, and so has a bit for a count above 8.
     pub fn new(birth: u32, survival: u32) -> Result<CountRule, RuleRefusal>
         ensures { Masked birth survival result }
     {

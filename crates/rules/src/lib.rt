@@ -1,4 +1,4 @@
-// Local rules: what is answered to a cell's neighbourhood, 0 or 1.
+//! Local rules: functions from a cell and its Moore neighbourhood to 0 or 1.
 #![tactic(auto)]
 
 pub mod count;

@@ -1,10 +1,11 @@
-// Why a local rule is refused.
+//! Why a local rule is refused.
 ghost use Rattle.std.specs.Prelude.{◌≡◌};
 ghost use Rattle.rules.specs.Refusals.{rule_number};
 
 use thiserror::Error;
 
-// Each cause with its number, as docs/REFUSALS.md lists it.
+/// The causes: two of a table, which is checked for `Entries` first, and one of the masks of a count rule. Each has the number that
+/// docs/REFUSALS.md gives it.
 #[derive(Clone, Copy, PartialEq, Eq, Debug, Error)]
 pub enum RuleRefusal {
     #[error("there are not 512 entries")]

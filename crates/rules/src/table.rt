@@ -1,4 +1,4 @@
-// The table rule: an entry for each neighbourhood number.
+//! The table rule: an entry for each neighbourhood number.
 ghost use Rattle.std.specs.Prelude.{◌≡◌, replicate};
 ghost use Rattle.rules.specs.Bits.{AllBits};
 ghost use Rattle.std.proofs.Common.{rules};
@@ -10,6 +10,7 @@ use crate::refusal::RuleRefusal;
 use crate::rule::LocalRule;
 use tables::entries::all_below;
 
+/// A local rule by its values, one for each neighbourhood number in order.
 #[derive(Clone, Copy)]
 pub struct TableRule {
     entries: [u8; 512],
@@ -27,14 +28,14 @@ impl TableRule {
     ghost use Rattle.rules.specs.Refusals.{TableFilled};
     ghost use Rattle.rules.specs.Rules.{entries_of};
 
-    // Every answer is 0.
+    /// The rule whose value is always 0.
     pub fn new() -> TableRule
         ensures { entries_of result ≡ replicate 512 0 }
     {
         TableRule { entries: zeros() }
     }
 
-    // Replaces the whole table, or changes nothing.
+    /// Replaces the whole table, or changes nothing. Refused with `Entries` if there are not 512, and then with `TooLarge` if one is above 1.
     pub fn fill(&mut self, entries: &[u8]) -> Result<(), RuleRefusal>
         ensures { TableFilled entries.now (entries_of self.new) (self.new ≡ self.old) result }
     {
@@ -46,6 +47,7 @@ impl TableRule {
         Ok(())
     }
 
+    /// The values, in the order of the neighbourhood numbers.
     pub fn entries(&self) -> &[u8; 512]
         ensures { result.now ≡ entries_of self.now }
     {

@@ -1,7 +1,7 @@
 -- The cells of a sample, what a memory holds beforehand, and the digest of cells.
 --     sample k             cell number k; a sample has fewer than 65,536
 --     seven k              what cell number k of a memory holds before a board is read into it
---     mixed_in sum cell    the digest, one cell further on
+--     mixed_in sum cell    the digest after one more cell
 use Rattle.std.specs.Prelude.{ℕ, ◌+◌, ◌*◌, ◌/◌, ◌%◌}
 
 abbrev pub sample : ℕ → ℕ

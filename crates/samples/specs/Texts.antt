@@ -1,5 +1,5 @@
--- What is printed: numbers in decimal, parted by a blank.
---     spaced a b        a, a blank, and b
+-- What is printed: numbers in decimal, separated by spaces.
+--     spaced a b        a, a space, and b
 --     digest_text d     the sum and the phase of the digest d
 --     outcome_text o    the three digests of the outcome o, and `home` or `lost`
 --     line_text l       the line l: kind, name, columns, rows and phase of the opening, and the outcome

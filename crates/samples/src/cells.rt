@@ -1,11 +1,11 @@
-// The cells of a sample, and a digest of cells.
+//! The cells of a sample, and a digest of cells.
 ghost use Rattle.std.specs.Prelude.{◌≡◌, map, fold, IfOk};
 ghost use Rattle.std.specs.List.{range_with_len};
 ghost use Rattle.samples.specs.Cells.{mixed_in, sample, seven};
 
 use std::alloc::{AllocError, Allocator};
 
-// Four by four cells with presents, pasts and higher bits of all kinds.
+/// Four by four cells with presents, pasts and higher bits of all kinds.
 pub const ALL_KINDS: [[u8; 4]; 4] = [
     [0xf1, 0x02, 0x04, 0x09],
     [0x10, 0x21, 0x40, 0x80],
@@ -13,7 +13,7 @@ pub const ALL_KINDS: [[u8; 4]; 4] = [
     [0x55, 0xaa, 0x5a, 0xa4],
 ];
 
-// A sample has fewer cells than 65,536; the remainder only keeps the square within its type.
+/// The first `count` cells of the sample. A sample has fewer cells than 65,536; the remainder only keeps the square within its type.
 pub fn sown<A: Allocator>(count: usize, heap: A) -> Result<Vec<u8, A>, AllocError>
     ensures { IfOk result (λ v. v.items ≡ map sample (range_with_len 0 count)) }
 {
@@ -25,7 +25,7 @@ pub fn sown<A: Allocator>(count: usize, heap: A) -> Result<Vec<u8, A>, AllocErro
         .collect(heap)
 }
 
-// What a cells memory holds before a board is read into it.
+/// `count` cells as a memory holds them before a board is read into it.
 pub fn sevens<A: Allocator>(count: usize, heap: A) -> Result<Vec<u8, A>, AllocError>
     ensures { IfOk result (λ v. v.items ≡ map seven (range_with_len 0 count)) }
 {
@@ -34,6 +34,7 @@ pub fn sevens<A: Allocator>(count: usize, heap: A) -> Result<Vec<u8, A>, AllocEr
         .collect(heap)
 }
 
+/// A number below 65,521 that depends on every cell and on their order.
 pub fn digest(cells: &[u8]) -> u32
     ensures { result ≡ fold mixed_in 0 cells.now }
 {

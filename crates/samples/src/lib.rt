@@ -1,4 +1,4 @@
-// What programs and tests try the maps on.
+//! What programs and tests try maps on.
 #![tactic(auto)]
 
 pub mod cells;

@@ -1,4 +1,4 @@
-// One printed line: what a map of some name makes of the sample cells.
+//! One printed line: what a map makes of the sample cells, under its name.
 ghost use Rattle.std.specs.Prelude.{◌≡◌, IfOk, Some};
 ghost use Rattle.samples.specs.Outcomes.{IsOutcome};
 
@@ -8,6 +8,7 @@ use lattice::start::Start;
 use std::alloc::{AllocError, Allocator};
 use std::fmt;
 
+/// What a map makes of the sample with this opening, and the kind and the name under which it is printed.
 #[derive(Clone, Copy)]
 pub struct Line<'a> {
     pub kind: &'a str,
@@ -17,7 +18,7 @@ pub struct Line<'a> {
 }
 
 impl<'a> Line<'a> {
-    // The line of a map, under these words. Only for want of memory is there none.
+    /// The line of a map, under this kind and name. The only error is running out of memory.
     pub fn of<M: Map, A: Allocator>(
         kind: &'a str,
         name: &'a str,

@@ -1,4 +1,4 @@
-// Where the sample lattices begin: columns, rows and phase.
+/// Where the sample lattices begin: columns, rows and phase.
 pub const OPENINGS: [(u32, u32, u32); 18] = [
     (2, 2, 0),
     (2, 2, 1),

@@ -1,4 +1,4 @@
-// What a map makes of the sample cells.
+//! What a map makes of the sample cells.
 ghost use Rattle.std.specs.Prelude.{◌≡◌, IfOk, Some};
 ghost use Rattle.lattice.specs.Starts.{held};
 
@@ -8,26 +8,30 @@ use lattice::start::Start;
 use std::alloc::{AllocError, Allocator};
 use std::fmt;
 
-// A lattice in short: the digest of its cells, and its phase.
+/// A lattice in short: the digest of its cells, and its phase.
 #[derive(Clone, Copy, PartialEq, Eq, Debug)]
 pub struct Digest {
     pub sum: u32,
     pub phase: u8,
 }
 
+/// Where a map leads from the sample, and whether it comes back.
 #[derive(Clone, Copy, PartialEq, Eq, Debug)]
 pub struct Outcome {
-    // After one move forward, after ten, and after one move back.
+    /// After one move forward.
     pub one: Digest,
+    /// After ten moves forward.
     pub ten: Digest,
+    /// After one move back.
     pub back: Digest,
-    // Whether ten moves back, after the ten forward, lead home again.
+    /// Whether ten moves back, after the ten forward, lead home again.
     pub home: bool,
 }
 
 impl Digest {
     ghost use Rattle.samples.specs.Outcomes.{IsDigest};
 
+    /// The digest of the lattice that these make up.
     pub fn of(start: &Start, cells: &[u8]) -> Digest
         ensures { IsDigest (held start.now cells.now) result }
     {
@@ -41,7 +45,7 @@ impl Digest {
 impl Outcome {
     ghost use Rattle.samples.specs.Outcomes.{sampled, IsOutcome};
 
-    // From the first cells, which `cells` has, too.
+    // Begins with the cells `first`, which `cells` holds as well.
     fn within<M: Map>(map: &M, opening: Start, first: &[u8], cells: &mut [u8]) -> Outcome
         requires first { held opening first.now ≡ sampled opening }
         requires cells { cells.old ≡ first.now }
@@ -66,7 +70,7 @@ impl Outcome {
         }
     }
 
-    // What the map makes of the sample. Only for want of memory is there none.
+    /// What the map makes of the sample with this opening. The only error is running out of memory.
     pub fn of<M: Map, A: Allocator>(
         map: &M,
         opening: Start,

@@ -1,4 +1,4 @@
-// Two tables and a rule without symmetry: a mistake that symmetry hides shows with them.
+//! Two tables and a rule without symmetry, so that a mistake shows with them that symmetry would hide.
 ghost use Rattle.std.specs.Prelude.{◌≡◌, map};
 ghost use Rattle.std.specs.List.{range_with_len};
 ghost use Rattle.rules.specs.Rules.{entries_of as rule_entries};
@@ -9,11 +9,13 @@ use rules::table::TableRule;
 use tables::block::BlockTable;
 use tables::cell::CellTable;
 
+/// The entries of `lopsided`.
 pub const LOPSIDED: [u8; 16] = [3, 10, 1, 8, 15, 6, 13, 4, 11, 2, 9, 0, 7, 14, 5, 12];
 
+/// The entries of `cycle`.
 pub const CYCLE: [u8; 4] = [1, 2, 3, 0];
 
-// No turn and no reflection of the square keeps this block table.
+/// A block table that is changed by each rotation and reflection of the square.
 pub fn lopsided() -> BlockTable
     ensures { entries_of result ≡ map lopsided (range_with_len 0 16) }
 {
@@ -22,7 +24,7 @@ pub fn lopsided() -> BlockTable
     table
 }
 
-// This cell table is not its own inverse.
+/// A cell table that is not its own inverse.
 pub fn cycle() -> CellTable
     ensures { entries_of result ≡ map cycle (range_with_len 0 4) }
 {
@@ -37,7 +39,7 @@ fn crooked_entries() -> [u8; 512]
     std::array::from_fn(|n| ((n * n / 13 + n / 5) % 2) as u8)
 }
 
-// No exchange of two of the nine cells keeps this rule.
+/// A local rule that is changed by each exchange of two of its nine cells.
 pub fn crooked() -> TableRule
     ensures { rule_entries result ≡ map crooked (range_with_len 0 512) }
 {

@@ -1,4 +1,4 @@
--- Records behind others. Assumes nothing.
+-- Records after others. Assumes nothing.
 use Rattle.std.proofs.Common.{List, [], ◌∷◌, ◌++◌, subst, sym}
 use Rattle.std.specs.List.{AllByRecursion}
 use Rattle.scripts.specs.Records.{kind_of, Writable}

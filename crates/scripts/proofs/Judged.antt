@@ -1,4 +1,4 @@
--- What a line is judged as: the writing of a record is that record, what is accepted is the writing of a record, and a fault is the first
+-- What a line is judged as: the line of a record is that record, each line that is accepted is the line of a record, and a fault has the first
 -- cause. Assumes nothing.
 use Rattle.std.proofs.Common.{◌≡◌, ◌≢◌, ℕ, ◌+◌, ◌-◌, ◌<◌, ◌≤◌, ℤ, List, [], ◌∷◌, length, true, false, Bool, cond, Some, None, Option, Ok, Err, Result, arith, refl, ◌∙◌, ap, sym, eqb, subst, inl, inr, slice_index_or}
 use Rattle.std.proofs.lemmas.Bool.{cases_lt, eqb-true, eqb-false}
@@ -23,7 +23,7 @@ use Rattle.scripts.specs.declared.state.State.{State}
 use Rattle.scripts.specs.declared.word.Word.{Word}
 use Rattle.scripts.specs.declared.word.Word.TheVariants as W
 
--- the writing of a record
+-- the line of a record
 pub judged_written : (s : State) (n : ℕ) (r : Record) → permits s (kind_of r) ≡ true → Writable r → judged s n (fields_of r) ≡ Ok r
 judged_written s n (R.Step z) may w = rw (may, signed_written (signed_decimal z) z (w, refl)) refl
 judged_written s n (R.Flip c r m) may w = rw (may, number_written (decimal c) c (w.0, refl), number_written (decimal r) r (w.1, refl), number_written (decimal m) m (w.2, refl)) refl
@@ -33,7 +33,7 @@ judged_written s n R.Open may w = rw may refl
 judged_written s n R.Clear may w = rw may refl
 judged_written s n R.Close may w = rw may refl
 
--- what was read as a record of the word k
+-- what was read as the record r of the word k
 pub record IsRead (k : Word) (args : List (List ℕ)) (r : Record) : Type 0 where
   pub kind : kind_of r ≡ k
   pub arguments : args ≡ arguments_of r
@@ -79,7 +79,7 @@ word_read n W.Open args r len e = plain_read W.Open R.Open args r refl refl tt l
 word_read n W.Clear args r len e = plain_read W.Clear R.Clear args r refl refl tt len (answered (read_as W.Clear n args) R.Clear r refl e)
 word_read n W.Close args r len e = plain_read W.Close R.Close args r refl refl tt len (answered (read_as W.Close n args) R.Close r refl e)
 
--- what is accepted
+-- what was accepted as the record r
 pub record IsRecord (s : State) (fs : List (List ℕ)) (r : Record) : Type 0 where
   pub permitted : permits s (kind_of r) ≡ true
   pub writable : Writable r
@@ -188,7 +188,7 @@ fault_of_numbers n W.Open w args e len is = absurd cc
 fault_of_numbers n W.Clear w args e len is = absurd cc
 fault_of_numbers n W.Close w args e len is = absurd cc
 
--- the causes of a line in their order
+-- the causes for a line in their order
 state_fault : (k : Word) (s : State) (n : ℕ) (w : List ℕ) (args : List (List ℕ)) (e : RecordFault) (may : Bool) → w ≡ spelling k → length args ≡ arity k → permits s k ≡ may → cond may (read_as k n args) (Err (NotPermitted n)) ≡ Err e → LineFault s n (w ∷ args) e
 state_fault k s n w args e true spelled count may is =
     let p = fault_of_numbers n k w args e count is in

@@ -1,4 +1,4 @@
--- The records that are left to read, by the next line. Assumes nothing.
+-- The records that are left to read, from the next line on. Assumes nothing.
 use Rattle.std.proofs.Common.{◌≡◌, ℕ, ◌+◌, ◌<◌, List, [], ◌∷◌, length, is_some, true, ◌≤◌, Some, None, Option, Ok, Err, Result, refl, ap, ◌∙◌, sym, arith, subst}
 use Rattle.std.proofs.lemmas.List.{length-drop}
 use Rattle.std.specs.List.{position_or_len}
@@ -19,22 +19,22 @@ use Rattle.scripts.specs.declared.records.Records.{Records}
 use Rattle.scripts.specs.declared.state.State.{State}
 use Rattle.scripts.specs.declared.state.State.TheVariants.{Rest, Session}
 
--- r answered a to the line l, whatever its fields and its place
+-- the line l is judged as a, whatever its fields and its place
 abbrev pub Judges : State → Line → Result Record RecordFault → Type 0
 Judges s l a = (n : ℕ) (fs : List (List ℕ)) → HasFields l fs → StandsFrom l n 1 → a ≡ judged s n fs
 
--- what stands at a reader that gives the line l
+-- what the line is judged as that a reader gives as l
 pub judged_there : (r : Reader) (l : Line) (t : Reader) (s : State) (a : Result Record RecordFault) → fields_read_of r ≡ 0 → GivesLine r l t → Judges s l a → judged s (line_of r) (fields (first_line (rest_of r))) ≡ a
 judged_there r l t s a begins gives judges =
     let stands : StandsFrom l (line_of r) 1 = let P : ℕ → Type 0 = λ k. StandsFrom l (line_of r) (k + 1) in subst P begins gives.stands in
     sym (judges (line_of r) (fields (first_line (rest_of r))) gives.fields stands)
 
--- the answer to the question for the next record
+-- the result of asking for the next record
 pub line_answer : (r : Reader) (l : Line) (t : Reader) (s : State) (a : Result Record RecordFault) → fields_read_of r ≡ 0 → (AtEnd r → ⊥) → GivesLine r l t → Judges s l a → next_from s (line_of r) (lines (rest_of r)) ≡ (a >>= λ x. Ok (Some x))
 line_answer r l t s a begins going gives judges =
     ap (next_from s (line_of r)) (lines_after r l t begins going gives) ∙ ap (λ j. j >>= λ x. Ok (Some x)) (judged_there r l t s a begins gives judges)
 
--- what follows from an answer for what is left
+-- what a result says of the records that are left
 some_was : (a : Result Record RecordFault) (x : Record) → (a >>= λ y. Ok (Some y)) ≡ Ok (Some x) → a ≡ Ok x
 some_was (Ok y) x e = cc
 some_was (Err d) x e = absurd cc

@@ -1,4 +1,4 @@
--- What a whole text is read as, and what is wrong with it, in the words of who writes it. Assumes nothing.
+-- What a whole text is read as, and what is wrong with it, as its writer sees it. Assumes nothing.
 use Rattle.std.proofs.Common.{◌≡◌, ℕ, ◌+◌, ◌≤◌, List, length, map, true, Ok, Err, Result, IfOk, refl, ◌∙◌, ap, sym, subst, inl, inr}
 use Rattle.faults.proofs.Joined.{went_on}
 use Rattle.text.proofs.WholeTexts.{whole_accepted, whole_passes, whole_refused}
@@ -39,7 +39,7 @@ taken n bs rs is =
     let itself : IsScript rs (script_of rs) = record { reads = record { leads = is.reads.leads; writable = is.reads.writable; text = refl }; short = subst (λ (x : List ℕ). length x ≤ max_text) is.reads.text is.short } in
     ap (script n) is.reads.text ∙ taken_text n rs itself
 
--- a fault of a line is none of the text as a whole
+-- a fault of a line is not a fault of the text as a whole
 placed : (n : ℕ) (bs : List ℕ) (e : RecordFault) → IsWhole bs → FaultyLine n bs e → TextFault n bs e
 placed n bs (Field f) w l = (w, l)
 placed n bs TooLong w l = absurd l.fault
@@ -84,7 +84,7 @@ fault_by n bs e (Ok u) a-is is = fault_of_lines n bs e (whole_accepted n bs a-is
 pub fault : (n : ℕ) (bs : List ℕ) (e : RecordFault) → script n bs ≡ Err e → TextFault n bs e
 fault n bs e is = fault_by n bs e (whole n bs) refl is
 
--- the same of how many records there are
+-- the same for the number of records
 counted_at : (n : ℕ) (bs : List ℕ) (a : Result (List Record) RecordFault) → script n bs ≡ a → IfOk (count_of a) (λ count. (rs : List Record) × IsScript rs bs × (count ≡ length rs))
 counted_at n bs (Ok rs) is = (rs, accepted n bs rs is, refl)
 counted_at n bs (Err e) is = tt

@@ -1,4 +1,4 @@
--- The lines of a script: written records are read as themselves, and what is accepted was written. Assumes nothing.
+-- The lines of a script: written records are read as themselves, and accepted lines are written records. Assumes nothing.
 use Rattle.std.proofs.Common.{◌≡◌, ℕ, ◌+◌, List, [], ◌∷◌, ◌++◌, map, flat_map, Ok, Err, Result, refl, ◌∙◌, ap, sym, subst}
 use Rattle.std.specs.List.{AllByRecursion}
 use Rattle.faults.proofs.Joined.{went_on}

@@ -1,13 +1,13 @@
 -- What a script says, line by line.
---     arity w                               how many fields stand behind the word w
---     read_as w n args                       the record of the word w with the fields `args` behind it, on line n
---     judged s n fs                         the record that the fields fs are, on line n and in the state s, or the first fault of that line
---     judged_as m s n args                  the same where m is the word of that first field, if it is one, and `args` are the fields behind it
---     in_front r a                          a with the record r in front, if a is no fault
---     end_of_text s n                       no records; a fault if the text ends in session, where line n would be the next
---     records_from s n ls                   the records of the lines ls, the first being line n, from the state s on, or the first fault
---     script n bs                          the records of the text bs, the first line being line n, or the first fault
---     count_of a                           how many records a has, if it is no fault
+--     arity w                 how many fields follow the word w
+--     read_as w n args        the record of the word w and the fields `args` after it, on line n; or the fault of the first one that is no number
+--     judged s n fs           the record that the fields fs are, on line n and in the state s; or the first fault of that line
+--     judged_as m s n args    the same, where m is the word that the first field is, if it is one, and `args` are the fields after it
+--     in_front r a            the record r and then those of a, if a is not a fault
+--     end_of_text s n         no records; a fault if the text ends in session, where line n would be the next
+--     records_from s n ls     the records of the lines ls, the first being line n, from the state s on; or the first fault
+--     script n bs             the records of the text bs, the first line being line n; or the first fault
+--     count_of a              how many records a has, if it is not a fault
 use Rattle.std.specs.Prelude.{ℕ, ◌+◌, ◌==◌, List, [], ◌∷◌, length, Option, Some, None, Result, Ok, Err, slice_index_or, if◌then◌else◌}
 use Rattle.faults.specs.Results.{◌>>=◌}
 use Rattle.faults.specs.declared.record.RecordFault.{RecordFault}

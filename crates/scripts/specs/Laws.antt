@@ -1,12 +1,12 @@
--- Scripts in the words of who writes them, apart from how a text is read.
---     IsScript rs bs          bs is the text of the records rs: they may come one after another, from rest to rest, their numbers have at most
---                             six digits, and bs is short enough
---     IsArgument w bs         bs is a number as the word w wants it
+-- Scripts as their writer sees them, apart from how a text is read.
+--     IsScript rs bs          bs is the text of the records rs: the states permit one after another, from rest to rest, each of their numbers has
+--                             at most six digits, and bs is short enough
+--     IsArgument w bs         bs is a number of the kind that the word w takes
 --     Spells w fs             the first of the fields fs is the word w
---     Counted w fs            that, and there are as many fields as the word wants
---     LineFault s n fs e      e is what is wrong with a line with the fields fs, which is line n, in the state s: it is so, and none of the
---                             causes that come before it
---     TextFault n bs e        e is what is wrong with the text bs, which begins with line n: it is so, and nothing before it is wrong
+--     Counted w fs            the same, and fs has as many fields as the word takes
+--     LineFault s n fs e      e is what is wrong with a line of the fields fs, which is line n, in the state s: this cause applies, and none that
+--                             comes before it
+--     TextFault n bs e        e is what is wrong with the text bs, whose first line is line n: this cause applies, and none that comes before it
 use Rattle.std.specs.Prelude.{◌≡◌, ◌≢◌, ℕ, ◌+◌, ◌-◌, ◌<◌, ◌≤◌, ℤ, List, [], ◌++◌, length, false, IsTrue, slice_index_or}
 use Rattle.std.specs.List.{AllByRecursion, count_by}
 use Rattle.faults.specs.declared.field.FieldFault.TheVariants.{NotANumber}
@@ -25,7 +25,7 @@ use Rattle.scripts.specs.declared.state.State.TheVariants.{Rest, Session}
 use Rattle.scripts.specs.declared.word.Word.{Word}
 use Rattle.scripts.specs.declared.word.Word.TheVariants.{Step}
 
--- records that lead from the state s to t, and the text that they are
+-- bs is the text of the records rs, which lead from the state s to t
 pub record Reads (s : State) (rs : List Record) (t : State) (bs : List ℕ) : Type 0 where
   pub leads : Leads s rs t
   pub writable : AllByRecursion Writable rs
@@ -45,7 +45,7 @@ Spells w fs = slice_index_or fs 0 [] ≡ spelling w
 abbrev pub Counted : Word → List (List ℕ) → Type 0
 Counted w fs = Spells w fs × (length fs ≡ arity w + 1)
 
--- field k of the line is no number, and all between it and the word are
+-- field k of the line is not a number, and each field between the word and it is one
 pub record FirstNoNumber (w : Word) (fs : List (List ℕ)) (k : ℕ) : Type 0 where
   pub argument : 2 ≤ k
   pub inside : k ≤ length fs

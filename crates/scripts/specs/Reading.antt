@@ -1,9 +1,9 @@
 -- A reader of records, and what it gives.
---     reader_of r, state_of r     the reader of its fields, and the state that the records before have led to
+--     reader_of r, state_of r     the reader of its fields, and the state after the records read so far
 --     left_of r                   the records that are left to read, or the first fault
---     next_of r                   what r answers to the question for the next record
---     MovedBy r a s               having answered a, r is s
---     LeftBehind r a s            what is left after the answer a is the rest of what was left before
+--     next_of r                   the result of asking r for the next record
+--     MovedBy r a s               with the result a, r becomes s
+--     LeftBehind r a s            the result a and what is then left of s make up what was left of r
 use Rattle.std.specs.Prelude.{◌≡◌, ℕ, ◌+◌, ◌<◌, length, List, [], ◌∷◌, Option, Some, None, Result, Ok, Err}
 use Rattle.faults.specs.Results.{◌>>=◌}
 use Rattle.faults.specs.declared.record.RecordFault.{RecordFault}
@@ -26,7 +26,7 @@ state_of r = r.state
 abbrev pub left_of : Records → Result (List Record) RecordFault
 left_of r = records_from (state_of r) (line_of (reader_of r)) (lines (rest_of (reader_of r)))
 
--- there was a line, the reader has gone on behind it, and the state by the record x
+-- there was a line, s stands after it, and the record x leads to the state of s
 pub record GoneOn (r : Records) (x : Record) (s : Records) : Type 0 where
   pub some : 0 < length (rest_of (reader_of r))
   pub text : text_of (reader_of s) ≡ text_of (reader_of r)
@@ -34,7 +34,7 @@ pub record GoneOn (r : Records) (x : Record) (s : Records) : Type 0 where
   pub line : line_of (reader_of s) ≡ line_of (reader_of r) + 1
   pub state : state_of s ≡ after (state_of r) (kind_of x)
 
--- the next record, or the first fault of the line; none at the end, if the state is rest
+-- the next record, or the first fault of its line; at the end none, if the state is rest
 abbrev pub next_from : State → ℕ → List (List ℕ) → Result (Option Record) RecordFault
 next_from s n [] = end_of_text s n >>= λ _. Ok None
 next_from s n (l ∷ ls) = judged s n (fields l) >>= λ x. Ok (Some x)
@@ -48,7 +48,7 @@ MovedBy r (Ok (Some x)) s = GoneOn r x s
 MovedBy r (Ok None) s = s ≡ r
 MovedBy r (Err e) s = s ≡ r
 
--- what is left then, of what was left before
+-- what was left before, by the result and what is left then
 abbrev pub LeftBehind : Records → Result (Option Record) RecordFault → Records → Type 0
 LeftBehind r (Ok (Some x)) s = left_of r ≡ in_front x (left_of s)
 LeftBehind r (Ok None) s = left_of r ≡ Ok []

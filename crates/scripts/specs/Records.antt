@@ -3,7 +3,7 @@
 --     arguments_of r       its numbers, each as it is written
 --     fields_of r          the fields of its line
 --     written r            its line, with the newline
---     script_of rs         the text of these records
+--     script_of rs         the text of the records rs
 --     Writable r           each number of r has at most six digits
 use Rattle.std.specs.Prelude.{ℕ, ◌≤◌, List, [], ◌∷◌, ⊤, unsigned_abs, flat_map}
 use Rattle.std.specs.Fmt.{decimal, signed_decimal}

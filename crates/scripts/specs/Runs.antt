@@ -1,7 +1,7 @@
--- What a run of a script asks before its first record.
---     risen a              the answer a, where a record's fault has become a run's
---     run_check s cs n bs  how many records the text bs has, whose first line is line n; or the first fault, beginning with cells cs that are
---                          no whole lattice of the start record s, which is a fault of line 0
+-- What a run of a script checks before its first record.
+--     risen a              the result a, with a record's fault made a run's
+--     run_check s cs n bs  how many records the text bs has, whose first line is line n; or the first fault. If the cells cs are not those of
+--                          a whole lattice with the start record s, that is the first, and its line is 0
 use Rattle.std.specs.Prelude.{ℕ, ◌*◌, ◌==◌, List, length, Result, Ok, Err, if◌then◌else◌}
 use Rattle.faults.specs.declared.record.RecordFault.{RecordFault}
 use Rattle.faults.specs.declared.run.BenchRefusal.TheVariants.{Cells}

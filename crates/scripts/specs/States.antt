@@ -1,6 +1,6 @@
--- The two states that a text can tell: at rest, and in session.
+-- The two states that a text determines: at rest, and in session.
 --     permits s w          a record that begins with w may come in the state s
---     after s w            the state behind it
+--     after s w            the state after it
 --     Leads s rs t         the records rs may come one after another from the state s on, and lead to t
 use Rattle.std.specs.Prelude.{◌≡◌, Bool, true, false, List, [], ◌∷◌, IsTrue}
 use Rattle.scripts.specs.Records.{kind_of}

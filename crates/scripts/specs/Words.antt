@@ -1,5 +1,5 @@
 -- The words that records begin with.
---     words          all of them
+--     words          all seven
 --     spelling w     the bytes of the word w
 --     word_of bs     the word that bs spells, if it is one
 use Rattle.std.specs.Prelude.{ℕ, List, [], ◌∷◌, Option, codes}

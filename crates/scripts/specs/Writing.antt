@@ -1,5 +1,5 @@
--- Records that are written into a memory.
---     RecordPut r a old new e     e is what writing the record r at place a of a memory of `old` answers, which then holds `new`
+-- Records written into a memory.
+--     RecordPut r a old new e     writing the record r at place a of a memory that holds `old` returns e and leaves `new` there
 use Rattle.std.specs.Prelude.{◌≡◌, ℕ, ◌+◌, ◌<◌, ◌≤◌, List, length, Option, Some, None}
 use Rattle.text.specs.Puts.{put_at}
 use Rattle.scripts.specs.Records.{written}

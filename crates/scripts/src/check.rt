@@ -1,4 +1,4 @@
-// The check of a whole script.
+//! The check of a whole script.
 ghost use Rattle.std.specs.Prelude.{◌≡◌, List, IfErr, IfOk, Ok, length};
 ghost use Rattle.scripts.specs.Judgements.{script, count_of};
 ghost use Rattle.scripts.specs.Laws.{IsScript, TextFault};
@@ -21,15 +21,15 @@ fn count_records(text: &[u8], first_line: u32) -> Result<usize, RecordFault>
     Ok(count)
 }
 
-// How many records the text has, or its first fault.
+/// How many records the script has, or its first fault. Its first line has the number `first_line`.
 #[tactic(auto, using(crate::proofs::ScriptLaws::accepted_count, crate::proofs::ScriptLaws::taken, crate::proofs::ScriptLaws::fault))]
 pub fn check(text: &[u8], first_line: u32) -> Result<usize, RecordFault>
     ensures answer { result ≡ count_of (script first_line text.now) }
-    // what is accepted is, byte for byte, the writing of so many records
+    // an accepted text is, byte for byte, what that many records are written as
     ensures accepted { IfOk result (λ count. (rs : List Record) × IsScript rs text.now × (count ≡ length rs)) }
-    // what is written of records is accepted, and read as these
+    // the text that records are written as is accepted, and read as them
     ensures taken { (rs : List Record) → IsScript rs text.now → (script first_line text.now ≡ Ok rs) × (result ≡ Ok (length rs)) }
-    // a fault is the first one
+    // the fault is the first one
     ensures first { IfErr result (λ e. TextFault first_line text.now e) }
 {
     count_records(text, first_line)

@@ -1,4 +1,4 @@
-// Scripts: their records, and the check of a whole text.
+//! Scripts: their records, and the check of a whole text.
 #![tactic(auto)]
 
 pub mod check;

@@ -1,12 +1,15 @@
-// The records of a script.
+//! The records of a script.
 use crate::word::Word;
 
+/// One line of a script. Whether its numbers suit the lattice is for the bench to judge.
 #[derive(Clone, Copy, PartialEq, Eq, Debug)]
 pub enum Record {
+    /// This many steps forward, or back if the number is negative.
     Step(i32),
     Undo,
     Redo,
     Open,
+    /// The bits of the mask flipped in one cell.
     Flip { col: u32, row: u32, mask: u32 },
     Clear,
     Close,
@@ -16,7 +19,7 @@ impl Record {
     ghost use Rattle.std.specs.Prelude.{◌≡◌};
     ghost use Rattle.scripts.specs.Records.{kind_of};
 
-    // The word that the record begins with.
+    /// The word that the record begins with.
     pub fn word(&self) -> Word
         ensures { result ≡ kind_of self.now }
     {

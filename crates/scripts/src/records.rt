@@ -1,4 +1,4 @@
-// The records of a text, one after another.
+//! The records of a text, one after another.
 ghost use Rattle.std.specs.Prelude.{◌≡◌, ℕ, List, [], ◌∷◌};
 ghost use Rattle.text.specs.Fields.{bytes_of};
 ghost use Rattle.text.specs.FieldsOfLines.{Stands, HasFields, StandsFrom};
@@ -14,14 +14,14 @@ use text::field::Field;
 use text::line::Line;
 use text::reader::Reader;
 
-// A step by the number that this field is.
+// A step with the count in this field.
 fn step(count: Field<'_>) -> Result<Record, RecordFault>
     ensures { (n : ℕ) → Stands count.entry n 2 → result ≡ read_as Step n (bytes_of count.entry ∷ []) }
 {
     Ok(Record::Step(count.signed()?))
 }
 
-// A flip by the numbers that these fields are.
+// A flip with the numbers in these fields.
 fn flip(col: Field<'_>, row: Field<'_>, mask: Field<'_>) -> Result<Record, RecordFault>
     ensures { (n : ℕ) → Stands col.entry n 2 → Stands row.entry n 3 → Stands mask.entry n 4 → result ≡ read_as Flip n (bytes_of col.entry ∷ bytes_of row.entry ∷ bytes_of mask.entry ∷ []) }
 {
@@ -32,7 +32,7 @@ fn flip(col: Field<'_>, row: Field<'_>, mask: Field<'_>) -> Result<Record, Recor
     })
 }
 
-// The record that a line is in this state, or its first fault.
+// The record that a line is in this state, or the line's first fault.
 fn judge(line: Line<'_>, state: State) -> Result<Record, RecordFault>
     ensures { (n : ℕ) (fs : List (List ℕ)) → HasFields line.entry fs → StandsFrom line.entry n 1 → result ≡ judged state n fs }
 {
@@ -57,7 +57,7 @@ fn judge(line: Line<'_>, state: State) -> Result<Record, RecordFault>
     }
 }
 
-// A reader of records. It stands at the beginning of a line.
+/// A reader of records, always at the beginning of a line, and the state that they have led to.
 #[derive(Clone, Copy, Debug)]
 pub struct Records<'t> {
     reader: Reader<'t>,
@@ -72,14 +72,14 @@ impl<'t> Records<'t> {
     ghost use Rattle.scripts.specs.declared.record.Record.{Record};
     ghost use Rattle.scripts.specs.declared.state.State.TheVariants.{Rest};
 
-    // At the beginning of the text, and at rest.
+    /// A reader at the beginning of the text and at rest. The first line has the number `first_line`.
     #[tactic(auto, using(crate::proofs::ScriptLaws::reads_itself))]
     pub fn new(text: &'t [u8], first_line: u32) -> Records<'t>
         ensures text { text_of (reader_of result) ≡ text.now }
         ensures position { position_of (reader_of result) ≡ 0 }
         ensures line { line_of (reader_of result) ≡ first_line }
         ensures state { state_of result ≡ Rest }
-        // what is written of records is read as these
+        // the text that records are written as is read as them
         ensures written { (rs : List Record) → Reads Rest rs Rest text.now → left_of result ≡ Ok rs }
     {
         Records {
@@ -88,21 +88,21 @@ impl<'t> Records<'t> {
         }
     }
 
-    // The line of the next record.
+    /// The line of the next record.
     pub fn line(&self) -> usize
         ensures { result ≡ line_of (reader_of self.now) }
     {
         self.reader.line()
     }
 
-    // The state that the records before have led to.
+    /// The state after the records read so far.
     pub fn state(&self) -> State
         ensures { result ≡ state_of self.now }
     {
         self.state
     }
 
-    // The next record, or the first fault of its line. At the end there is none, if the state is rest.
+    /// The next record, or the first fault of its line. At the end of the text, `None` at rest and a fault in session. Only a record is read past.
     #[tactic(auto, using(crate::proofs::Lefts::left_behind))]
     pub fn next_record(&mut self) -> Result<Option<Record>, RecordFault>
         ensures answer { result ≡ next_of self.old }

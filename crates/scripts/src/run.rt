@@ -1,4 +1,4 @@
-// What a run of a script asks before its first record.
+//! What a run of a script checks before its first record.
 ghost use Rattle.std.specs.Prelude.{◌≡◌};
 ghost use Rattle.scripts.specs.Runs.{run_check};
 
@@ -6,7 +6,7 @@ use crate::check::check;
 use faults::run::{BenchRefusal, RunFault};
 use lattice::start::Start;
 
-// The cells make a whole lattice, and the text is a script: so many records has it.
+/// Checks that the cells are as many as the lattice has, and then that the text is a script. Returns how many records it has.
 pub fn check_run(
     start: &Start,
     cells: &[u8],

@@ -1,6 +1,7 @@
-// The two states of a bench, as far as a text can tell them.
+//! The two states of a bench, as the text of a script determines them.
 use crate::word::Word;
 
+/// Whether a session is open.
 #[derive(Clone, Copy, PartialEq, Eq, Debug)]
 pub enum State {
     Rest,
@@ -11,7 +12,7 @@ impl State {
     ghost use Rattle.std.specs.Prelude.{◌≡◌};
     ghost use Rattle.scripts.specs.States.{permits, after};
 
-    // Whether a record with this word may come now.
+    /// Whether a record with this word may come next.
     pub fn permits(self, word: Word) -> bool
         ensures { result ≡ permits self word }
     {
@@ -21,7 +22,7 @@ impl State {
         }
     }
 
-    // The state behind a record with this word.
+    /// The state after a record with this word.
     pub fn after(self, word: Word) -> State
         ensures { result ≡ after self word }
     {

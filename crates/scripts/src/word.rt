@@ -1,7 +1,8 @@
-// The words that records begin with.
+//! The words that records begin with.
 ghost use Rattle.std.specs.Prelude.{◌≡◌};
 ghost use Rattle.scripts.specs.Words.{spelling, word_of};
 
+/// What a record asks for.
 #[derive(Clone, Copy, PartialEq, Eq, Debug)]
 pub enum Word {
     Step,
@@ -14,7 +15,7 @@ pub enum Word {
 }
 
 impl Word {
-    // The word that is spelled so.
+    /// The word with this spelling, byte for byte. `None` if there is none.
     pub fn of(bytes: &[u8]) -> Option<Word>
         ensures { result ≡ word_of bytes.now }
     {
@@ -30,7 +31,7 @@ impl Word {
         }
     }
 
-    // Its spelling.
+    /// The word as it is written in a script.
     pub fn spelling(self) -> &'static str
         ensures { result.now ≡ spelling self }
     {

@@ -1,4 +1,4 @@
-// Writing a record.
+//! Writing a record.
 ghost use Rattle.std.specs.Prelude.{◌≡◌, ◌+◌, ◌≤◌, ◌∷◌, ◌++◌};
 ghost use Rattle.arrayvec.specs.ArrayString.{array_string_len};
 ghost use Rattle.scripts.specs.Records.{written};
@@ -8,10 +8,10 @@ use crate::record::Record;
 use arrayvec::ArrayString;
 use itoa::{Buffer, Integer};
 
-// The longest line is that of a flip with three numbers of ten digits.
+// The bytes of the longest line, a flip with three numbers of ten digits.
 const MAX_LINE: usize = 38;
 
-// Appends the number as a further field.
+// Appends the number as one more field.
 fn push_number<I: Integer>(line: &mut ArrayString<MAX_LINE>, number: I)
     requires { array_string_len line.old + 1 + I.MAX_STR_LEN ≤ MAX_LINE }
     ensures bytes { line.new.bytes ≡ line.old.bytes ++ 9 ∷ I.text number }
@@ -40,7 +40,7 @@ fn written(record: Record) -> ArrayString<MAX_LINE>
     line
 }
 
-// Writes the record's line at this place of the memory, and answers the place behind it; or nothing, where there is no room for it.
+/// Writes the record's line, newline included, into the memory from place `at` on. Returns the place after it; `None` if there is no room for it.
 pub fn write_record(record: Record, memory: &mut [u8], at: usize) -> Option<usize>
     ensures { RecordPut «record» at memory.old memory.new result }
 {

@@ -1,4 +1,4 @@
--- A permutation is filled. Assumes nothing.
+-- A fill with a permutation is not refused. Assumes nothing.
 use Rattle.std.proofs.Common.{◌≡◌, ℕ, List, length, get_or, refl, ap, arith}
 use Rattle.std.specs.Prelude.{Result, Ok, Err, IsOk}
 use Rattle.tables.specs.Inverses.{InvertedBy}

@@ -1,4 +1,4 @@
--- Writing at each entry's place where it stands. Assumes nothing.
+-- Writing at place e where the entry e stands. Assumes nothing.
 use Rattle.std.proofs.Common.{◌≡◌, ℕ, zero, suc, ◌+◌, ◌<◌, ◌≤◌, cond, leb, List, length, get_or, set, replicate, sum_by, sym, refl, ap, ◌∙◌, ⊎_elim, arith}
 use Rattle.std.proofs.lemmas.List.{get_or-set_same, get_or-set_other, length-set, length-replicate, get_or-replicate}
 use Rattle.std.proofs.lemmas.List.Sums.{sum_by-cons, sum_by-set, get_or-le-sum_by}
@@ -41,11 +41,11 @@ placed_none n es = record {
   left = let e = all_free n n in omega arith;
 }
 
--- the place of an entry is one of them
+-- the place of an entry is one of the places
 pub placed_inside : (es ps : List ℕ) (i : ℕ) → Placed (length es) es ps i → Below (length es) es → i < length es → get_or es i 0 < length ps
 placed_inside es ps i p small i< = let long = p.long in let s = small i i< in omega arith
 
--- one entry e more, whose place is free
+-- one more entry e, whose place is free
 module _ (n : ℕ) (es ps : List ℕ) (i e : ℕ) (p : Placed n es ps i) (i< : i < n) (e< : e < n) (is : e ≡ get_or es i 0) (gap : n ≤ get_or ps e 0) where
   within : e < length ps
   within = let l = p.long in omega arith
@@ -92,7 +92,7 @@ module _ (n : ℕ) (es ps : List ℕ) (i e : ℕ) (p : Placed n es ps i) (i< : i
   pub placed_more : Placed n es (set ps e i) (i + 1)
   placed_more = record { long = length-set ps e i ∙ p.long; found = found_more; taken = taken_more; left = left_more }
 
--- an entry whose place is taken came before
+-- an entry whose place is taken has come before
 pub placed_again : (n : ℕ) (es ps : List ℕ) (i e : ℕ) → Placed n es ps i → i < length es → e < n → e ≡ get_or es i 0 → get_or ps e 0 < n → RepeatIn es
 placed_again n es ps i e p i< e< is t = let old = p.taken e e< t in (get_or ps e 0, i, old.0, i<, old.1 ∙ is)
 

@@ -1,4 +1,4 @@
--- That one list undoes another, by a test that is computed. Assumes nothing.
+-- One list undoes another, by a test that is computed. Assumes nothing.
 use Rattle.std.proofs.Common.{◌≡◌, ℕ, zero, suc, ◌<◌, Bool, true, ◌&&◌, eqb, ltb, List, get_or, ap, ◌∙◌, ⊎_elim, arith}
 use Rattle.std.proofs.lemmas.Bool.{cases_eq, and_parts, eqb-true, ltb-true}
 use Rattle.tables.specs.Inverses.{InvertedBy}

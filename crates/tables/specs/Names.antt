@@ -3,10 +3,10 @@
 --     exchange, complement             the cell tables, and cell_identity
 --     critters_back                    the inverse of critters; bbm and tron, exchange and complement are their own inverses
 --     IsTable es back t                the table t has the entries es and the inverse back
---     BlockOf asked r                  r is what the name `asked` gives: the block table of that name, or the refusal of a name that there is not
---     CellOf asked r                   the same of a cell table
---     Written gives old new r          r is what writing a table answers, where `gives` says which table or refusal there is to write. The table
---                                      is then `new`; a refusal leaves the old one
+--     BlockOf asked r                  looking up the name `asked` returns r: the block table with that name, or the refusal of an unknown name
+--     CellOf asked r                   the same for a cell table
+--     Written gives old new r          writing a table returns r, where `gives` says which table or refusal there is to write. The table is then
+--                                      `new`; a refusal leaves the old one
 use Rattle.std.specs.Prelude.{◌≡◌, ℕ, List, [], ◌∷◌, Ok, Err, codes, Result, IsOkAnd, ◌≢◌}
 use Rattle.tables.specs.Tables.{entries_of, inverse_of}
 use Rattle.tables.specs.declared.table.Table.{Table}

@@ -4,10 +4,11 @@
 --     LargeIn n es               some entry is not
 --     Apart es                   no entry comes twice
 --     RepeatIn es                some entry does
---     RefusedFor n es e          e is the first cause against the entries es where n are due: a cause counts only where none before it does
---     Filled n es new same r     r is what a fill with es answers. The entries are then `new`; where r refuses, `same` holds
---     PlacesOf es r              r is what the search for each entry's place answers: the places, where no entry comes twice; cited by an inner function alone
---     Inverted n es r            r is what the search for an inverse of the n entries es answers; cited by an inner function alone
+--     RefusedFor n es e          e is the first cause against filling a table of n entries with es: it applies, and none before it does
+--     Filled n es new same r     a fill with es returns r. The entries are then `new`; if r is a refusal, `same` holds
+--     PlacesOf es r              looking for the place of each entry of es returns r: the places, if no entry comes twice. Cited by an inner
+--                                function alone
+--     Inverted n es r            looking for the inverse of the n entries es returns r. Cited by an inner function alone
 use Rattle.std.specs.Prelude.{◌≡◌, ℕ, ◌<◌, ◌≤◌, List, length, Ok, Err, Result, ◌≢◌, slice_index}
 use Rattle.tables.specs.Inverses.{InvertedBy}
 use Rattle.tables.specs.declared.refusal.TableRefusal.{TableRefusal}

@@ -1,4 +1,4 @@
-// The tables of a block map: what becomes of each of the sixteen states of a block.
+//! The tables of block maps: what becomes of each of the sixteen states of a block.
 ghost use Rattle.std.specs.Prelude.{◌≡◌};
 ghost use Rattle.tables.specs.Names.{BlockOf, block_identity};
 ghost use Rattle.tables.specs.Tables.{entries_of};
@@ -7,6 +7,7 @@ use crate::refusal::TableRefusal;
 use crate::table::Table;
 use std::str::FromStr;
 
+/// A permutation of 0 to 15, the states of a block. A state is a bit for each of the four cells, in the order that docs/MAPS.md gives.
 pub type BlockTable = Table<16>;
 
 const IDENTITY: [u8; 16] = [0, 1, 2, 3, 4, 5, 6, 7, 8, 9, 10, 11, 12, 13, 14, 15];
@@ -19,7 +20,7 @@ const CRITTERS_BACK: [u8; 16] = [15, 7, 11, 3, 13, 5, 6, 8, 14, 9, 10, 4, 12, 2,
 
 const TRON: [u8; 16] = [15, 1, 2, 3, 4, 5, 6, 7, 8, 9, 10, 11, 12, 13, 14, 0];
 
-// The built-in table of this name.
+// The built-in table with this name.
 impl FromStr for Table<16> {
     type Err = TableRefusal;
 
@@ -38,6 +39,7 @@ impl FromStr for Table<16> {
 }
 
 impl Table<16> {
+    /// The table that leaves every block as it is.
     pub fn identity() -> BlockTable
         ensures { entries_of result ≡ block_identity }
     {

@@ -1,4 +1,4 @@
-// The tables of a cell map: what becomes of each of the four states of a cell's low two bits.
+//! The tables of cell maps: what becomes of each of the four states that a cell's present and past can be in.
 ghost use Rattle.std.specs.Prelude.{◌≡◌};
 ghost use Rattle.tables.specs.Names.{CellOf, cell_identity};
 ghost use Rattle.tables.specs.Tables.{entries_of};
@@ -7,6 +7,7 @@ use crate::refusal::TableRefusal;
 use crate::table::Table;
 use std::str::FromStr;
 
+/// A permutation of 0 to 3, the states of a cell: its present weighs 1, and its past weighs 2.
 pub type CellTable = Table<4>;
 
 const IDENTITY: [u8; 4] = [0, 1, 2, 3];
@@ -15,7 +16,7 @@ const EXCHANGE: [u8; 4] = [0, 2, 1, 3];
 
 const COMPLEMENT: [u8; 4] = [1, 0, 3, 2];
 
-// The built-in table of this name.
+// The built-in table with this name.
 impl FromStr for Table<4> {
     type Err = TableRefusal;
 
@@ -36,6 +37,7 @@ impl FromStr for Table<4> {
 }
 
 impl Table<4> {
+    /// The table that leaves every cell as it is.
     pub fn identity() -> CellTable
         ensures { entries_of result ≡ cell_identity }
     {

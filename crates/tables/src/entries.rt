@@ -1,8 +1,8 @@
-// Entries of a table that is to be filled.
+//! The entries that a table is to be filled with.
 ghost use Rattle.std.specs.Prelude.{MatchBool};
 ghost use Rattle.tables.specs.Refusals.{Below, LargeIn};
 
-// Whether every entry is below the limit.
+/// Whether every entry is below the limit.
 pub fn all_below(entries: &[u8], limit: usize) -> bool
     ensures { MatchBool result (Below limit entries.now) (LargeIn limit entries.now) }
 {

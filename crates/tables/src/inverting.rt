@@ -1,12 +1,12 @@
-// The inverse of a list of entries, or the first cause for which they are no permutation.
+//! The inverse of a list of entries, or the first reason why they are not a permutation.
 ghost use Rattle.std.specs.Prelude.{◌≤◌};
 ghost use Rattle.tables.specs.Refusals.{Below, Inverted, PlacesOf};
 
 use crate::entries::all_below;
 use crate::refusal::TableRefusal;
 
-// Writes into each place where the entry of that number stands, and refuses at an entry that comes again.
-// A place that is not written yet holds the number of places.
+// Writes at place e where the entry e stands, and refuses the first entry that comes a second time.
+// A place that is not written yet holds N.
 fn places_of<const N: usize>(entries: &[u8; N]) -> Result<[u8; N], TableRefusal>
     requires few { N ≤ 255 }
     requires below { Below N entries.now }

@@ -1,4 +1,4 @@
-// Tables of numbers that are permutations by their type.
+//! Tables of numbers that are permutations by their type.
 #![tactic(auto)]
 
 pub mod block;

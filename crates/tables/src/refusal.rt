@@ -1,10 +1,10 @@
-// Why a table is not filled.
+//! Why a table is not filled.
 ghost use Rattle.std.specs.Prelude.{◌≡◌};
 ghost use Rattle.tables.specs.Refusals.{table_number};
 
 use thiserror::Error;
 
-// Each cause with its number, as docs/REFUSALS.md lists it.
+/// The causes in the order of their checks. The last one is of fills by name alone. Each has the number that docs/REFUSALS.md gives it.
 #[derive(Clone, Copy, PartialEq, Eq, Debug, Error)]
 pub enum TableRefusal {
     #[error("the table takes another number of entries")]

@@ -1,4 +1,4 @@
-// A table: a permutation of the numbers below N, with its inverse.
+//! Tables: permutations of the numbers below N, with their inverses.
 ghost use Rattle.std.specs.Prelude.{◌≡◌, ◌≤◌};
 ghost use Rattle.tables.specs.Inverses.{InvertedBy};
 
@@ -6,24 +6,26 @@ use crate::inverting::inverted;
 use crate::refusal::TableRefusal;
 use std::str::FromStr;
 
+/// A permutation of the numbers below `N`, together with its inverse. That the two undo each other is part of the type.
 #[derive(Clone, Copy)]
 pub struct Table<const N: usize> {
     pub(crate) entries: [u8; N],
     pub(crate) inverse: [u8; N],
     ghost back: { InvertedBy N entries inverse },
     ghost forth: { InvertedBy N inverse entries },
-    // A place that is free while the inverse is made holds N, so N is a byte.
+    // While the inverse is computed, a free place holds N, so N has to be a byte.
     ghost few: { N ≤ 255 },
 }
 
-// What is data of a size, the identity and the built-in tables, stands in block.rt and cell.rt. An identity for every N would have to
-// ask for N ≤ 255, and a public call asks for nothing.
+// What belongs to one size, the identity and the built-in tables, is in block.rt and cell.rt. An identity for every N would have to require
+// N ≤ 255, and a public call requires nothing.
 impl<const N: usize> Table<N> {
     ghost use Rattle.tables.specs.Refusals.{Filled};
     ghost use Rattle.tables.specs.Tables.{entries_of, inverse_of};
     ghost use Rattle.tables.specs.Names.{Written};
 
-    // Replaces the whole table, or changes nothing.
+    /// Replaces the whole table by the permutation with these entries, or changes nothing. Refused with the first of `Entries`, `TooLarge` and
+    /// `Repeated` that applies.
     pub fn fill(&mut self, entries: &[u8]) -> Result<(), TableRefusal>
         ensures { Filled N entries.now (entries_of self.new) (self.new ≡ self.old) result }
     {
@@ -33,7 +35,7 @@ impl<const N: usize> Table<N> {
         Ok(())
     }
 
-    // Replaces the whole table, or changes nothing.
+    /// Replaces the whole table by the built-in one with this name, or changes nothing. Refused with `UnknownName` alone.
     pub fn fill_named(&mut self, name: &str) -> Result<(), TableRefusal>
     where
         Self: FromStr<Err = TableRefusal>,
@@ -43,12 +45,14 @@ impl<const N: usize> Table<N> {
         Ok(())
     }
 
+    /// The entries, in the order of the numbers that they replace.
     pub fn entries(&self) -> &[u8; N]
         ensures { result.now ≡ entries_of self.now }
     {
         &self.entries
     }
 
+    /// The entries of the inverse permutation.
     pub fn inverse(&self) -> &[u8; N]
         ensures { result.now ≡ inverse_of self.now }
     {

@@ -28,7 +28,7 @@ newline_inside bs some e =
           absurd cc
     ]
 
--- it is its first line, a newline, and what stands below
+-- such a text is its first line, a newline, and what follows
 pub first_ended : (bs : List ℕ) → 0 < length bs → finished bs ≡ true → bs ≡ first_line bs ++ (10 ∷ below_first bs)
 first_ended bs some e =
     let inside : position_or_len is_newline bs < length bs = newline_inside bs some e in
@@ -53,7 +53,7 @@ finished_behind f more e = finished_from more at_last where
       let moved : get_or ((f ++ (10 ∷ [])) ++ more) (length ((f ++ (10 ∷ [])) ++ more) - 1) 0 ≡ get_or more (length more - 1) 0 = there ∙ ap (λ k. get_or more k 0) place in
       subst (λ (b : ℕ). is_newline b ≡ true) moved last'
 
--- below_first is shorter
+-- what follows the first line is shorter
 shorter : (bs : List ℕ) → 0 < length bs → finished bs ≡ true → length (below_first bs) < length bs
 shorter bs some e = omega (arith, ap length (first_ended bs some e), length-append (first_line bs) (10 ∷ below_first bs))
 
@@ -70,7 +70,7 @@ lines_joined (suc fuel) (b ∷ bs) small e =
 pub text_is_its_lines : (bs : List ℕ) → finished bs ≡ true → bs ≡ flat_map ended (lines bs)
 text_is_its_lines bs e = lines_joined (length bs) bs (omega arith) e
 
--- no line holds a newline
+-- no line contains a newline
 onto_free : (p : ℕ → Bool) (b : ℕ) (ps : List (List ℕ)) → p b ≡ false → AllByRecursion (Free p) ps → AllByRecursion (Free p) (onto_first b ps)
 onto_free p b [] misses free = ((misses, tt), tt)
 onto_free p b (m ∷ ms) misses free = ((misses, free.0), free.1)
@@ -95,12 +95,12 @@ of_pieces_free (l ∷ m ∷ more) free = (free.0, of_pieces_free (m ∷ more) fr
 pub lines_free : (bs : List ℕ) → AllByRecursion (Free is_newline) (lines bs)
 lines_free bs = of_pieces_free (slice_split is_newline bs) (pieces_free is_newline bs)
 
--- fields that hold no tab are read back
+-- fields that contain no tab are read back
 pub fields_of_parted : (f : List ℕ) (fs : List (List ℕ)) → AllByRecursion (Free is_tab) (f ∷ fs) → fields (parted (f ∷ fs)) ≡ f ∷ fs
 fields_of_parted f [] free = split_free is_tab f free.0
 fields_of_parted f (g ∷ fs) free = split_front is_tab f 9 (parted (g ∷ fs)) free.0 refl ∙ ap (λ x. f ∷ x) (fields_of_parted g fs free.1)
 
--- a line and its newline in front of a finished text
+-- a line and its newline before a finished text
 finished_front : (f more : List ℕ) → finished more ≡ true → finished (f ++ (10 ∷ more)) ≡ true
 finished_front f [] e = finished_from (f ++ (10 ∷ [])) (λ some.
     let whole : length (f ++ (10 ∷ [])) ≡ length f + 1 = omega (arith, length-append f (10 ∷ [])) in
@@ -121,11 +121,11 @@ pub finished_joined : (ls : List (List ℕ)) → finished (flat_map ended ls) �
 finished_joined [] = refl
 finished_joined (l ∷ ls) = ap finished (append_assoc l (10 ∷ []) (flat_map ended ls)) ∙ finished_front l (flat_map ended ls) (finished_joined ls)
 
--- a line and its newline are what its fields say
+-- a line and its newline, from its fields
 pub ended_by_fields : (l : List ℕ) (fs : List (List ℕ)) → fields l ≡ fs → ended l ≡ ended (parted fs)
 ended_by_fields l fs e = ap ended (sym (join_with_byte-slice_split 9 l) ∙ ap parted e)
 
--- lines in front of more are read back
+-- lines that more text follows are read back
 pub lines_of_front : (ls : List (List ℕ)) (more : List ℕ) → AllByRecursion (Free is_newline) ls → lines (flat_map ended ls ++ more) ≡ ls ++ lines more
 lines_of_front [] more free = refl
 lines_of_front (l ∷ ls) more free =

@@ -1,4 +1,4 @@
--- What a reader gives is the first of the fields that are left on its line. Assumes nothing.
+-- A reader gives the first of the fields that are left on its line. Assumes nothing.
 use Rattle.std.proofs.Common.{◌≡◌, ℕ, ◌+◌, ◌<◌, List, [], ◌∷◌, ◌++◌, length, drop, true, false, Some, arith, sym, ◌∙◌, ap, slice_get, not}
 use Rattle.std.proofs.lemmas.List.{take-append-drop, length-take-le, drop-drop, append-nil}
 use Rattle.std.proofs.lemmas.List.Sums.{prefix_len-le-length}
@@ -16,7 +16,7 @@ begins_with : (ys : List ℕ) (c : ℕ) → slice_get ys 0 ≡ Some c → ys ≡
 begins_with [] c e = absurd cc
 begins_with (y ∷ ys) c e = cc
 
--- a list is what stands before its first separator, and what begins there
+-- a list is the part before its first separator and the part from there on
 cut : (xs f : List ℕ) → f ≡ before_first is_separator xs → xs ≡ f ++ drop (length f) xs
 cut xs f e =
     let n : ℕ = position_or_len is_separator xs in
@@ -26,7 +26,7 @@ cut xs f e =
 free_field : (xs f : List ℕ) → f ≡ before_first is_separator xs → Free is_separator f
 free_field xs f e = rw e (free_before is_separator xs)
 
--- the same, where c ends the front, and rest is what stands behind it
+-- the same, where c is that separator and rest is what follows it
 cut_at : (xs f rest : List ℕ) (c : ℕ) → f ≡ before_first is_separator xs → slice_get (drop (length f) xs) 0 ≡ Some c → rest ≡ drop (length f + 1) xs → xs ≡ f ++ (c ∷ rest)
 cut_at xs f rest c e ends behind =
     let more : drop 1 (drop (length f) xs) ≡ rest = drop-drop 1 (length f) xs ∙ sym behind in
@@ -53,7 +53,7 @@ first_field r (Unfinished b p) s g =
     let line = field_and_end b.now (free_field (rest_of r) b.now g.bytes) in
     rw (rest_is r (Unfinished b p) s g g.ends) (line.0, line.1 ∙ sym (moved ∙ g.ends))
 
--- reading a field f leads r to s, on the same line
+-- reading the field f takes r to s, on the same line
 pub record GoesOn (r : Reader) (f : Field) (s : Reader) : Type 0 where
   pub fields : fields (first_line (rest_of r)) ≡ bytes_of f ∷ fields (first_line (rest_of s))
   pub below : below_first (rest_of s) ≡ below_first (rest_of r)
@@ -63,7 +63,7 @@ pub record GoesOn (r : Reader) (f : Field) (s : Reader) : Type 0 where
   pub fields_read : fields_read_of s ≡ fields_read_of r + 1
   pub further : position_of r < position_of s
 
--- the same to the next line
+-- the same, to the next line
 pub record EndsLine (r : Reader) (f : Field) (s : Reader) : Type 0 where
   pub fields : fields (first_line (rest_of r)) ≡ bytes_of f ∷ []
   pub below : rest_of s ≡ below_first (rest_of r)

@@ -1,4 +1,4 @@
--- A number that is written down holds no separator. Assumes nothing.
+-- A written number contains no separator. Assumes nothing.
 use Rattle.std.proofs.Common.{◌≡◌, ℕ, ◌≤◌, ℤ, pos, negsuc, List, [], ◌∷◌, true, false, arith, unsigned_abs, suc, refl}
 use Rattle.std.proofs.lemmas.Bool.Decides.{nat_tests}
 use Rattle.std.specs.Char.{is_ascii_digit}

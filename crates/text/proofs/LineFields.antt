@@ -6,7 +6,7 @@ use Rattle.std.specs.List.{AllByRecursion}
 use Rattle.text.proofs.Cuts.{Free, before_front, after_front, before_yes, after_yes, before_no, after_no, split_free, split_front}
 use Rattle.text.specs.Lines.{is_tab, is_newline, is_separator, first_line, below_first, line_end, fields, parted}
 
--- bytes with no separator among them have neither tab nor newline
+-- bytes with no separator among them contain neither a tab nor a newline
 pub no_tab : (bs : List ℕ) → Free is_separator bs → Free is_tab bs
 no_tab [] free = tt
 no_tab (b ∷ bs) free = (grind (arith, free.0), no_tab bs free.1)
@@ -31,7 +31,7 @@ behind_front : (f xs ys : List ℕ) (b : ℕ) → drop (length (f ++ (b ∷ xs))
 behind_front [] xs ys b = refl
 behind_front (x ∷ f) xs ys b = behind_front f xs ys b
 
--- a tab leaves the end of its line where it was
+-- a field and its tab do not change where the line ends
 pub end_over_tab : (f more : List ℕ) → Free is_separator f → line_end (f ++ (9 ∷ more)) ≡ line_end more
 end_over_tab f more free = ap (λ l. drop (length l) (f ++ (9 ∷ more))) (line_over_tab f more free) ∙ behind_front f (first_line more) more 9
 
@@ -61,7 +61,7 @@ some_field l = omega (arith, length-slice_split is_tab l)
 pub longer : (fs more : List (List ℕ)) (a b c d : List ℕ) → 0 < length more → fs ≡ a ∷ b ∷ c ∷ d ∷ more → ((rest : List (List ℕ)) × (fs ≡ a ∷ rest)) × (length fs ≢ 1) × (length fs ≢ 2) × (length fs ≢ 4)
 longer fs more a b c d some e = ((b ∷ c ∷ d ∷ more, e), (λ l. absurd (omega (arith, some, ap length e, l))), (λ l. absurd (omega (arith, some, ap length e, l))), (λ l. absurd (omega (arith, some, ap length e, l))))
 
--- fields with no separator in them: a line of them has no newline
+-- fields without separators in them: the line that they make has no newline
 pub tabless : (fs : List (List ℕ)) → AllByRecursion (Free is_separator) fs → AllByRecursion (Free is_tab) fs
 tabless [] free = tt
 tabless (f ∷ fs) free = (no_tab f free.0, tabless fs free.1)

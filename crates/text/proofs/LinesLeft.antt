@@ -34,7 +34,7 @@ lines_only bs some past =
     let full : eqb (length bs) 0 ≡ false = grind (arith, nat_tests) in
     rw (split_free is_newline bs free, full, whole, none) refl
 
--- the lines are the first and those below it
+-- the lines are the first line and those below it
 pub lines_cons : (bs : List ℕ) → 0 < length bs → lines bs ≡ first_line bs ∷ lines (below_first bs)
 lines_cons bs some = elim (cases_lt (position_or_len is_newline bs) (length bs)) [ inl l ↦ lines_first bs l | inr g ↦ lines_only bs some g ]
 
@@ -42,6 +42,6 @@ pub some_left : (bs : List ℕ) → (bs ≡ [] → ⊥) → 0 < length bs
 some_left [] none = absurd (none refl)
 some_left (b ∷ bs) none = omega arith
 
--- the same of a reader that stands at the beginning of a line
+-- the same for a reader at the beginning of a line
 pub lines_after : (r : Reader) (l : Line) (s : Reader) → fields_read_of r ≡ 0 → (AtEnd r → ⊥) → GivesLine r l s → lines (rest_of r) ≡ first_line (rest_of r) ∷ lines (rest_of s)
 lines_after r l s begins going gives = lines_cons (rest_of r) (some_left (rest_of r) (λ e. going (e, begins))) ∙ ap (λ bs. first_line (rest_of r) ∷ lines bs) (sym gives.rest)

@@ -1,9 +1,9 @@
--- Bytes that are written behind others. Assumes nothing.
+-- Bytes that are written after others. Assumes nothing.
 use Rattle.std.proofs.Common.{◌≡◌, ℕ, ◌+◌, ◌≤◌, List, ◌++◌, length, take, drop, arith, sym, ◌∙◌, ap}
 use Rattle.std.proofs.lemmas.List.{append_assoc, length-append, length-take-le, take_at, drop_at, drop-drop}
 use Rattle.text.specs.Puts.{put_at}
 
--- what is put behind a piece is put with it
+-- two pieces written one after the other are written as one piece
 pub put_two : (m : List ℕ) (a : ℕ) (xs ys : List ℕ) → a + length xs + length ys ≤ length m → put_at (put_at m a xs) (a + length xs) ys ≡ put_at m a (xs ++ ys)
 put_two m a xs ys room =
     let front : length (take a m) ≡ a = length-take-le a m (omega arith) in
@@ -16,11 +16,11 @@ put_two m a xs ys room =
     ap (λ x. x ++ (ys ++ drop (a + length xs + length ys) (put_at m a xs))) before ∙ ap (λ x. (take a m ++ xs) ++ (ys ++ x)) behind ∙ append_assoc (take a m) xs (ys ++ drop (a + length xs + length ys) m)
     ∙ ap (λ x. take a m ++ x) (sym (append_assoc xs ys (drop (a + length xs + length ys) m))) ∙ ap (λ k. take a m ++ ((xs ++ ys) ++ drop k m)) place
 
--- a piece that is put behind what was put before
+-- a piece written after those that were written before
 pub put_next : (m : List ℕ) (a : ℕ) (xs ys : List ℕ) (now new : List ℕ) (end : ℕ) → now ≡ put_at m a xs → end ≡ a + length xs → new ≡ put_at now end ys → a + length xs + length ys ≤ length m → new ≡ put_at m a (xs ++ ys)
 put_next m a xs ys now new end before place here room = here ∙ ap (λ x. put_at x end ys) before ∙ ap (λ k. put_at (put_at m a xs) k ys) place ∙ put_two m a xs ys room
 
--- one piece behind another, from the beginning of m on
+-- pieces one after another, from the beginning of m on
 pub record Written (m xs now : List ℕ) (end : ℕ) : Type 0 where
   pub memory : now ≡ put_at m 0 xs
   pub behind : end ≡ length xs

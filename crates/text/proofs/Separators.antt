@@ -13,20 +13,20 @@ newline_behind bs inside tab =
     let at = separator_at _ (passes_at_first is_separator bs 0 inside) tab in
     rw (drop_more bs (position_or_len is_separator bs) 0 inside, at) refl
 
--- a loop that met no separator up to the end
+-- a loop that found no separator up to the end
 pub no_separator : (bs : List ℕ) (n : ℕ) → n ≡ length bs → ((k : ℕ) → k < n → is_separator (get_or bs k 0) ≡ false) → length bs ≡ position_or_len is_separator bs
 no_separator bs n e none =
     let all : position_or_len is_separator bs ≡ n = position_or_len_is is_separator bs n 0 (omega arith) none (λ (l : n < length bs). absurd (omega arith)) in
     sym (all ∙ e)
 
--- the bytes that a part, lent from i on, has before its first separator
+-- the bytes before the first separator of the part that is borrowed from i on
 pub before_in_part : (xs : List ℕ) (i n : ℕ) → n ≡ position_or_len is_separator (take (length xs - i) (drop i xs)) → take n (take (length xs - i) (drop i xs)) ≡ before_first is_separator (drop i xs)
 before_in_part xs i n at =
     let e : take (length xs - i) (drop i xs) ≡ drop i xs = take_rest xs i in
     let at' : n ≡ position_or_len is_separator (drop i xs) = rw e at at in
     rw (e, at') refl
 
--- the same of a part that is lent, from i on, where n of its bytes go before the separator
+-- in such a part, a separator that follows n bytes and is not a tab is a newline
 pub newline_in_part : (xs : List ℕ) (i n : ℕ) → n ≡ position_or_len is_separator (take (length xs - i) (drop i xs)) → n ≤ length (take (length xs - i) (drop i xs)) → (n ≡ length (take (length xs - i) (drop i xs)) → ⊥) → get_or (take (length xs - i) (drop i xs)) n 0 ≢ 9 → slice_get (drop (length (take n (take (length xs - i) (drop i xs)))) (drop i xs)) 0 ≡ Some 10
 newline_in_part xs i n at within inside tab =
     let e : take (length xs - i) (drop i xs) ≡ drop i xs = take_rest xs i in

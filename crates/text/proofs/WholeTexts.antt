@@ -22,7 +22,7 @@ whole_accepted n bs e = accepted_at n bs (leb (length bs) max_text) (finished bs
 pub whole_passes : (n : ℕ) (bs : List ℕ) → length bs ≤ max_text → finished bs ≡ true → whole n bs ≡ Ok tt
 whole_passes n bs short ends = rw (le-leb (length bs) max_text short, ends) refl
 
--- what is wrong with it, if something is
+-- what is wrong with a text that fails the check
 pub record Unended (n : ℕ) (bs : List ℕ) (e : RecordFault) : Type 0 where
   pub short : length bs ≤ max_text
   pub unended : finished bs ≡ false

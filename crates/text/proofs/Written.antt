@@ -1,4 +1,4 @@
--- A number is what it is written as: reading its digits and writing it undo each other. Assumes nothing.
+-- Writing a number and reading its digits undo each other. Assumes nothing.
 use Rattle.std.proofs.Common.{◌≡◌, ℕ, ◌<◌, ◌≤◌, List, [], ◌∷◌, length, get_or, drop, suc, zero, true, false, Some, None, Option, ℤ, pos, negsuc, arith, sym, refl, ◌∙◌, ap, Bool, eqb, inl, inr, ◌⊎◌, if◌then◌else◌, unsigned_abs}
 use Rattle.std.proofs.lemmas.Bool.{cases_lt}
 use Rattle.std.proofs.lemmas.Bool.Decides.{nat_tests}
@@ -10,7 +10,7 @@ use Rattle.std.specs.Str.Parse.{digits_value}
 use Rattle.text.proofs.Digits.{AreDigits, digits_model}
 use Rattle.text.specs.Numbers.{is_number, number_of, signed_of, negative_of, WritesNumber, WritesSigned, max_number}
 
--- what a number's bytes are, fact by fact
+-- the facts about a number's bytes, one by one
 pub record Number (bs : List ℕ) : Type 0 where
   pub digits : AreDigits bs
   pub some : 0 < length bs
@@ -41,7 +41,7 @@ number_read bs n e =
     let back : decimal (digits_value 10 bs) ≡ bs = decimal-digits_value digits_model bs facts.digits facts.some facts.front (omega arith) in
     (omega arith, sym (ap decimal (sym same) ∙ back))
 
--- what is written of a number up to the limit
+-- the digits of a number up to the limit
 pub number_of_decimal : (n : ℕ) → n ≤ max_number → Number (decimal n) × (48 ≤ get_or (decimal n) 0 0)
 number_of_decimal n small =
     let some : 0 < length (decimal n) = decimal_nonempty n (omega arith) in
@@ -67,7 +67,7 @@ number_written bs n w =
 not_zero : (n : ℕ) → eqb (suc n) 0 ≡ false
 not_zero n = grind (arith, nat_tests)
 
--- a minus is only in front of a number that is not 0
+-- a minus precedes only a number that is not 0
 negative_is : (o : Option ℕ) (z : ℤ) → negative_of o ≡ Some z → (n : ℕ) × (o ≡ Some (suc n)) × (z ≡ negsuc n)
 negative_is None z e = absurd cc
 negative_is (Some zero) z e = absurd cc
@@ -95,7 +95,7 @@ pub signed_read : (bs : List ℕ) (z : ℤ) → signed_of bs ≡ Some z → Writ
 unfolding signed_of
 signed_read bs z e = signed_read_at bs z (eqb (get_or bs 0 0) 45) refl e
 
--- no number has a minus in front
+-- no unsigned number begins with a minus
 no_minus : (n : ℕ) → n ≤ max_number → eqb (get_or (decimal n) 0 0) 45 ≡ false
 no_minus n small =
     let facts = number_of_decimal n small in

@@ -1,10 +1,10 @@
 -- A field as a reader gives it.
---     bytes_of f     its bytes
---     place_of f     its line and its number on that line
---     ends_line_of f  no other field follows on its line
---     EndsAt f bs    what ends f is what bs, the bytes behind it, begins with: a tab, a newline, or nothing
---     FirstOf f bs more   f is the first of the fields that bs has left on its line. If it is the last, too, more is what stands below the
---                         line; else it has the other fields of the line left
+--     bytes_of f          its bytes
+--     place_of f          its line and its number on that line
+--     ends_line_of f      f is the last field of its line
+--     EndsAt f bs         what ends f is what the bytes bs after it begin with: a tab, a newline, or nothing
+--     FirstOf f bs more   f is the first of the fields that bs has left on its line. If it is also the last, more is what comes below that line;
+--                         otherwise more has the line's other fields left
 use Rattle.std.specs.Prelude.{◌≡◌, ℕ, Bool, true, false, List, [], ◌∷◌, Some, slice_get}
 use Rattle.faults.specs.declared.place.Place.{Place}
 use Rattle.text.specs.Lines.{first_line, below_first, fields}

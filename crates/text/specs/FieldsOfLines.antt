@@ -1,12 +1,12 @@
 -- A line as a reader gives it.
---     word_field l              the first field of the line l
+--     word_field l           the first field of the line l
 --     Stands f n k           the field f is number k on line n
---     StandsFrom l n k       the fields of l that are kept stand on line n, from number k on
+--     StandsFrom l n k       the fields that l holds stand on line n, from number k on
 --     HasFields l fs         fs are the fields of l
---     IsInner f              another field follows on the line of f
---     LineEndsAt l bs        of the fields of l that are kept, all but the last on the line are followed by others, and what ends
---                            that last one is what bs, the bytes behind the line, begins with
---     GivesLine r l s        r has the line l left, and is then s: at the beginning of the next line
+--     IsInner f              another field follows f on its line
+--     LineEndsAt l bs        each field that l holds is followed by another on the line, except for the line's last, and what ends that one
+--                            is what the bytes bs after the line begin with
+--     GivesLine r l s        r gives l, the rest of its line, and becomes s, which stands at the beginning of the next line
 use Rattle.std.specs.Prelude.{◌≡◌, ◌≢◌, ℕ, ◌+◌, false, List, [], ◌∷◌, length}
 use Rattle.text.specs.Fields.{bytes_of, place_of, ends_line_of, EndsAt}
 use Rattle.text.specs.Lines.{first_line, below_first, line_end, fields}

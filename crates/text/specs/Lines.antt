@@ -1,12 +1,12 @@
 -- The lines of a text, and the fields of a line.
 --     is_tab b, is_newline b     b is that byte: 9 or 10
 --     is_separator b             b ends a field: it is one of the two
---     first_line bs              the bytes of bs before its first newline, or all where there is none
---     below_first bs             what stands behind that newline
---     line_end bs                what stands behind its first line: the newline and all below, or nothing
---     lines bs                   all lines of bs. What stands behind the last newline is a line, too, where it is not empty
+--     first_line bs              the bytes of bs before its first newline, or all of them if there is none
+--     below_first bs             the bytes after that newline
+--     line_end bs                the bytes after its first line: the newline and all that follows, or none
+--     lines bs                   all lines of bs. The bytes after the last newline are a line too, unless there are none
 --     ended l                    the line l and its newline
---     parted fs                  the fields fs with a tab between each two of them
+--     parted fs                  the fields fs, separated by tabs
 --     fields l                   the fields of the line l. There is always one, and one more for each tab
 use Rattle.std.specs.Prelude.{ℕ, ◌==◌, ◌||◌, Bool, List, [], ◌∷◌, ◌++◌, if◌then◌else◌, length, drop}
 use Rattle.std.specs.List.{slice_split, before_first, after_first, join_with_byte}

@@ -1,10 +1,10 @@
--- Numbers as they are written in a text.
---     max_digits, max_number      a number has at most so many digits, and is at most so large
---     is_number bs                bs is one to six decimal digits, and begins with 0 only if it is `0`
+-- Numbers as a text writes them.
+--     max_digits, max_number      the most digits of a number, and the largest number
+--     is_number bs                bs is one to six decimal digits, the first of them 0 only in `0` itself
 --     number_of bs                the number that bs is, if it is one
---     signed_of bs                the same, where a minus may stand in front, but not in front of `0`
---     number_at n k bs            the number that bs is, the field k of line n; or the fault that it is none
---     signed_at n k bs            the same, where a minus may stand in front
+--     signed_of bs                the same with an optional leading minus, which may not precede `0`
+--     number_at n k bs            the number that bs is, which is field k of line n; or the fault that it is not one
+--     signed_at n k bs            the same with an optional leading minus
 --     WritesNumber n bs           bs is how n is written
 --     WritesSigned z bs           bs is how z is written
 use Rattle.std.specs.Prelude.{◌≡◌, ℕ, ◌≤◌, ℤ, pos, neg_ℤ, unsigned_abs, Bool, ◌&&◌, ◌||◌, ◌==◌, nat_lt, nat_le, List, length, drop, slice_index, Option, Some, None, Result, ok_or, if◌then◌else◌}

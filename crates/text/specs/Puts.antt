@@ -1,5 +1,5 @@
--- Bytes that are written into a memory.
---     put_at m a xs     the memory m, with the bytes xs from place a on in place of its own
+-- Bytes written into a memory.
+--     put_at m a xs     the memory m after the bytes xs are written at place a
 use Rattle.std.specs.Prelude.{ℕ, ◌+◌, List, ◌++◌, length, take, drop}
 
 abbrev pub put_at : List ℕ → ℕ → List ℕ → List ℕ

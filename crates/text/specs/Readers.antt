@@ -1,11 +1,11 @@
 -- A reader of a text, and what it gives.
---     text_of r, position_of r     the text, and how many of its bytes were read
+--     text_of r, position_of r     the text, and how many of its bytes have been read
 --     line_of r                    the line of the next field
---     fields_read_of r             how many fields of that line were read
---     rest_of r                    what was not read yet
---     AtEnd r                      there is no field left: nothing is left to read, and no tab stands just before
---     Moves f r s                  reading the field f leads r to s
---     Gives r f s                  r gives the field f, and is then s
+--     fields_read_of r             how many fields of that line have been read
+--     rest_of r                    the bytes that have not been read
+--     AtEnd r                      no field is left: no bytes are left, and the last byte read, if any, is not a tab
+--     Moves f r s                  reading the field f takes r to s
+--     Gives r f s                  r gives the field f and becomes s
 use Rattle.std.specs.Prelude.{◌≡◌, ℕ, ◌+◌, List, [], length, drop}
 use Rattle.std.specs.List.{before_first}
 use Rattle.text.specs.declared.field.Field.{Field}
@@ -32,7 +32,7 @@ rest_of r = drop (position_of r) (text_of r)
 abbrev pub AtEnd : Reader → Type 0
 AtEnd r = (rest_of r ≡ []) × (fields_read_of r ≡ 0)
 
--- to behind the tab or the newline, or to the end of the text; behind the last field of a line the next line begins
+-- to just after the tab or the newline, or to the end of the text; the next line begins after the last field of a line
 abbrev pub Moves : Field → Reader → Reader → Type 0
 Moves (Inner b p) r s = (position_of s ≡ position_of r + length b.now + 1) × (line_of s ≡ line_of r) × (fields_read_of s ≡ fields_read_of r + 1)
 Moves (Last b p) r s = (position_of s ≡ position_of r + length b.now + 1) × (line_of s ≡ line_of r + 1) × (fields_read_of s ≡ 0)

@@ -1,8 +1,8 @@
--- What is asked of a text as a whole.
---     max_text       a text has at most so many bytes
+-- The limits on a text as a whole.
+--     max_text       the most bytes that a text may have
 --     finished bs    bs is empty, or its last byte is a newline
---     whole n bs     whether bs, whose first line is line n, is short enough and finished. Of an unfinished line the number is told: as many
---                    lines go before it as there are newlines
+--     whole n bs     whether bs, whose first line is line n, is short enough and finished. The fault of an unfinished text names its last line:
+--                    as many lines precede it as there are newlines
 use Rattle.std.specs.Prelude.{ℕ, ◌+◌, ◌-◌, ◌==◌, ◌||◌, Bool, List, length, slice_index, nat_le, Result, Ok, Err, if◌then◌else◌}
 use Rattle.std.specs.List.{count_by}
 use Rattle.faults.specs.declared.record.RecordFault.{RecordFault}

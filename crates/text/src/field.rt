@@ -1,4 +1,4 @@
-// A field of a line.
+//! A field of a line.
 ghost use Rattle.std.specs.Prelude.{◌≡◌, ℕ, ℤ, IfOk, Ok};
 ghost use Rattle.std.specs.Option.{ok_or};
 ghost use Rattle.text.specs.Fields.{bytes_of, place_of, ends_line_of};
@@ -9,18 +9,19 @@ use crate::number::{number, signed};
 use faults::field::FieldFault;
 use faults::place::Place;
 
-// The bytes between two separators, where they stand in the text. What ends the field tells the cases apart.
+/// The bytes between two separators, borrowed from the text, and their place. The variant says what ends the field.
 #[derive(Clone, Copy, Debug)]
 pub enum Field<'t> {
-    // a tab: the line goes on
+    /// A tab: another field follows on the line.
     Inner { bytes: &'t [u8], place: Place },
-    // a newline
+    /// A newline.
     Last { bytes: &'t [u8], place: Place },
-    // the end of the text
+    /// The end of the text.
     Unfinished { bytes: &'t [u8], place: Place },
 }
 
 impl<'t> Field<'t> {
+    /// The bytes without the separator that ends them.
     pub fn bytes(&self) -> &'t [u8]
         ensures { result.now ≡ bytes_of self.now }
     {
@@ -31,6 +32,7 @@ impl<'t> Field<'t> {
         }
     }
 
+    /// Its line, and its number on that line.
     pub fn place(&self) -> Place
         ensures { result ≡ place_of self.now }
     {
@@ -41,14 +43,14 @@ impl<'t> Field<'t> {
         }
     }
 
-    // Whether no other field follows on the line.
+    /// Whether this is the last field of its line.
     pub fn ends_line(&self) -> bool
         ensures { result ≡ ends_line_of self.now }
     {
         !matches!(self, Field::Inner { .. })
     }
 
-    // The number that the field is, without a sign.
+    /// The field as a number without a sign: up to six decimal digits, no leading zero unless it is `0`. Otherwise `NotANumber` at its place.
     #[tactic(auto, using(crate::proofs::Written::number_read, crate::proofs::Written::number_written))]
     pub fn number(&self) -> Result<u32, FieldFault>
         ensures value { result ≡ ok_or (number_of (bytes_of self.now)) (NotANumber (place_of self.now)) }
@@ -58,7 +60,7 @@ impl<'t> Field<'t> {
         number(self.bytes()).ok_or(FieldFault::NotANumber(self.place()))
     }
 
-    // The number that the field is, where a minus may stand in front.
+    /// The same with an optional leading minus, which is none of the six digits and may not precede `0`.
     #[tactic(auto, using(crate::proofs::Written::signed_read))]
     pub fn signed(&self) -> Result<i32, FieldFault>
         ensures value { result ≡ ok_or (signed_of (bytes_of self.now)) (NotANumber (place_of self.now)) }

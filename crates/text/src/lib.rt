@@ -1,4 +1,4 @@
-// Text as bytes: lines, the fields of a line, numbers, and a reader that gives the fields one after another.
+//! Text as bytes: lines, the fields of a line, numbers, and a reader that returns the fields one after another.
 #![tactic(auto)]
 
 pub mod field;

@@ -1,14 +1,14 @@
-// A line by the number of its fields.
+//! A line by the number of its fields.
 use crate::field::Field;
 use crate::reader::Reader;
 
-// Lines of scripts, boards and jobs have one field, two or four.
+/// The fields of a line. Each line of a script, a board or a job has one, two or four.
 #[derive(Clone, Copy, Debug)]
 pub enum Line<'t> {
     One(Field<'t>),
     Two(Field<'t>, Field<'t>),
     Four(Field<'t>, Field<'t>, Field<'t>, Field<'t>),
-    // another number of fields, of which this is the first
+    /// The first field of a line with any other number of fields.
     Other(Field<'t>),
 }
 
@@ -16,7 +16,7 @@ impl<'t> Line<'t> {
     ghost use Rattle.std.specs.Prelude.{◌≡◌};
     ghost use Rattle.text.specs.FieldsOfLines.{word_field};
 
-    // The first field.
+    /// The first field.
     pub fn word(&self) -> Field<'t>
         ensures { result ≡ word_field self.now }
     {
@@ -33,7 +33,7 @@ impl<'t> Reader<'t> {
     ghost use Rattle.text.specs.Lines.{first_line, below_first, fields};
     ghost use Rattle.text.specs.Readers.{AtEnd, text_of, rest_of, line_of, fields_read_of};
 
-    // Goes to the beginning of the next line, from behind a tab.
+    // Skips to the beginning of the next line, from just after a tab.
     #[tactic(auto, using(crate::proofs::FirstFields::stays_on_line, crate::proofs::FirstFields::leaves_line, crate::proofs::LineFields::some_field))]
     fn skip_line(&mut self)
         requires { 0 < fields_read_of self.old }
@@ -50,7 +50,7 @@ impl<'t> Reader<'t> {
         }
     }
 
-    // What is left of this line, or the next line as a whole.
+    /// The rest of the current line, or the whole next line if none of its fields was read yet. `None` at the end of the text.
     #[tactic(auto, using(crate::proofs::FirstFields::stays_on_line, crate::proofs::FirstFields::leaves_line, crate::proofs::LineFields::longer))]
     pub fn next_line(&mut self) -> Option<Line<'t>>
         ensures given { IfSome result (λ l. GivesLine self.old l self.new) }

@@ -1,10 +1,10 @@
-// Numbers as they are written in a text.
+//! Numbers as a text writes them.
 ghost use Rattle.std.specs.Prelude.{◌≡◌, ◌≤◌, IfSome};
 ghost use Rattle.text.specs.Numbers.{number_of, signed_of, max_number};
 
 const MAX_DIGITS: usize = 6;
 
-// One to six decimal digits; a 0 in front only if it is all.
+// At least one decimal digit and at most six, with no leading zero unless `0` is all there is.
 #[tactic(auto, using(crate::proofs::Digits::value_small, crate::proofs::Digits::digits_more, crate::proofs::Digits::value_more, crate::proofs::Digits::value_below), unfolding(crate::specs::Numbers::number_of))]
 pub(crate) fn number(bytes: &[u8]) -> Option<u32>
     ensures value { result ≡ number_of bytes.now }
@@ -24,7 +24,7 @@ pub(crate) fn number(bytes: &[u8]) -> Option<u32>
     Some(value)
 }
 
-// The same, where a minus may stand in front, but not in front of `0`.
+// The same with an optional leading minus, which may not precede `0`.
 #[tactic(auto, unfolding(crate::specs::Numbers::signed_of, crate::specs::Numbers::number_of))]
 pub(crate) fn signed(bytes: &[u8]) -> Option<i32>
     ensures { result ≡ signed_of bytes.now }

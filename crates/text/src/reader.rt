@@ -1,4 +1,4 @@
-// A reader that goes over a text in place, field by field.
+//! Reading a text field by field, without copying it.
 ghost use Rattle.std.specs.Prelude.{◌≡◌, ◌+◌, ◌≤◌, ◌<◌, ◌^◌, length};
 ghost use Rattle.std.specs.List.{position_or_len};
 ghost use Rattle.text.specs.Lines.{is_separator};
@@ -6,20 +6,21 @@ ghost use Rattle.text.specs.Lines.{is_separator};
 use crate::field::Field;
 use faults::place::Place;
 
+/// A position in a borrowed text, and the line and field that come next there.
 #[derive(Clone, Copy, Debug)]
 pub struct Reader<'t> {
     text: &'t [u8],
-    // how many bytes were read
+    // the number of bytes read
     position: usize,
     // the line of the next field
     line: usize,
-    // how many fields of that line were read
+    // the number of fields of that line that were read
     fields_read: usize,
     ghost within: { position ≤ length text.now },
     ghost countable: { line + fields_read < position + 2 ^ 32 },
 }
 
-// How many bytes stand before the first tab or newline, or in all where there is none.
+// The number of bytes before the first tab or newline, or of all bytes if there is none.
 #[tactic(auto, using(std::proofs::lemmas::List::Sums::position_or_len_is, crate::proofs::Separators::no_separator))]
 fn field_len(bytes: &[u8]) -> usize
     ensures value { result ≡ position_or_len is_separator bytes.now }
@@ -38,7 +39,7 @@ impl<'t> Reader<'t> {
     ghost use Rattle.text.specs.Fields.{FirstOf};
     ghost use Rattle.text.specs.Readers.{text_of, position_of, line_of, fields_read_of, rest_of, AtEnd, Gives};
 
-    // At the beginning of the text.
+    /// A reader at the beginning of the text, whose lines are numbered from `first_line` on.
     pub fn new(text: &'t [u8], first_line: u32) -> Reader<'t>
         ensures text { text_of result ≡ text.now }
         ensures position { position_of result ≡ 0 }
@@ -53,21 +54,21 @@ impl<'t> Reader<'t> {
         }
     }
 
-    // How many bytes were read.
+    /// The number of bytes read so far.
     pub fn position(&self) -> usize
         ensures { result ≡ position_of self.now }
     {
         self.position
     }
 
-    // The line of the next field.
+    /// The line of the next field.
     pub fn line(&self) -> usize
         ensures { result ≡ line_of self.now }
     {
         self.line
     }
 
-    // The next field; none is given at the end, also if asked again.
+    /// The next field. `None` at the end of the text, however often it is called there.
     #[tactic(auto, using(crate::proofs::FirstFields::first_field))]
     pub fn next_field(&mut self) -> Option<Field<'t>>
         ensures given { IfSome result (λ f. Gives self.old f self.new) }

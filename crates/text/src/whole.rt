@@ -1,4 +1,4 @@
-// What is asked of a text as a whole.
+//! The limits on a text as a whole.
 ghost use Rattle.std.specs.Prelude.{◌≡◌, ◌+◌};
 ghost use Rattle.std.specs.List.{count_by};
 ghost use Rattle.text.specs.Lines.{is_newline};
@@ -8,7 +8,7 @@ use faults::record::RecordFault;
 
 const MAX_TEXT: usize = 65_536;
 
-// How many newlines there are.
+// The number of newlines.
 fn newlines(text: &[u8]) -> usize
     ensures { result ≡ count_by is_newline text.now }
 {
@@ -21,7 +21,7 @@ fn newlines(text: &[u8]) -> usize
     count
 }
 
-// A text is at most 65,536 bytes long and, if it is not empty, ends with a newline.
+/// Checks that a text has at most 65,536 bytes (`TooLong`), and then that it is empty or ends with a newline (`Unfinished`, at its last line).
 pub fn check_whole(text: &[u8], first_line: u32) -> Result<(), RecordFault>
     ensures { result ≡ whole first_line text.now }
 {

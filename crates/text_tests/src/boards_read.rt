@@ -1,4 +1,4 @@
-// Boards that are read: what they answer, and what the memory holds.
+//! Boards that are read: what is returned, and what the memory holds.
 use boards::check::check_board;
 use boards::read::read_board;
 use faults::report::Report;
@@ -106,7 +106,7 @@ fn faults_of_the_rows(rt: HostRuntime) {
     }
 }
 
-// Too short a memory is told last.
+// A memory that is too short is reported last.
 #[test]
 fn memory_is_asked_for_last(rt: HostRuntime) {
     let cases: [(&[u8], usize, (u8, u8, usize, usize)); 4] = [

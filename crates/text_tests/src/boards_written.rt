@@ -1,4 +1,4 @@
-// Boards that are written, and read again.
+//! Boards that are written, and read again.
 use boards::read::read_board;
 use boards::write::write_board;
 use lattice::start::Start;
@@ -6,7 +6,7 @@ use std::test::Fail;
 
 const TEXT: &[u8] = b"board\t2\t4\t1\nrow\t0001\nrow\t0f10\nrow\tfe09\nrow\ta0ff\n";
 
-// The same text, and twelve bytes that stood there before.
+// The same text, and after it twelve bytes that were there before.
 const WITH_REST: &[u8] =
     b"board\t2\t4\t1\nrow\t0001\nrow\t0f10\nrow\tfe09\nrow\ta0ff\n\x07\x07\x07\x07\x07\x07\x07\x07\x07\x07\x07\x07";
 
@@ -33,7 +33,7 @@ fn refused_writing_writes_nothing(rt: HostRuntime) -> Result<(), Fail> {
     assert_eq!(rt; answer.err().map(u8::from), Some(30));
     let answer = write_board(&start, &CELLS[..7], &mut memory);
     assert_eq!(rt; answer.err().map(u8::from), Some(10));
-    // the cells are told first
+    // wrong cells are reported first
     let answer = write_board(&start, &[0; 9], &mut memory[..0]);
     assert_eq!(rt; answer.err().map(u8::from), Some(10));
     assert_eq!(rt; memory, [7; 47]);

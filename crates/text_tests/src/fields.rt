@@ -1,11 +1,11 @@
-// Fields of texts, one after another, also of texts that no check would pass.
+//! Fields of texts, one after another, also of texts that no check would accept.
 use std::process::Abort;
 use std::test::Fail;
 use text::field::Field;
 use text::line::Line;
 use text::reader::Reader;
 
-// The next field has these bytes, stands there, and ends so: by a tab, a newline or the end of the text.
+// The next field has these bytes and this place, and is ended by what is named: a tab, a newline or the end of the text.
 fn next_is(
     rt: &impl Abort,
     reader: &mut Reader<'_>,
@@ -67,7 +67,7 @@ fn end_of(field: Field<'_>) -> &'static str {
     }
 }
 
-// How many fields a line has: 0 stands for another number than 1, 2 and 4.
+// How many fields a line has; 0 stands for any number but 1, 2 and 4.
 fn kind(line: Line<'_>) -> usize {
     match line {
         Line::One(_) => 1,

@@ -1,10 +1,10 @@
-// Texts at the limit of their length.
+//! Texts at the limit of their length.
 use boards::check::check_board;
 use faults::record::RecordFault;
 use scripts::check::check;
 use std::test::Fail;
 
-// 65,536 bytes: `undo` 13,101 times, and behind them 31 bytes more.
+// 65,536 bytes: `undo` 13,101 times, and then 31 more bytes.
 fn long_text(rt: &HostRuntime) -> Result<Vec<u8>, Fail> {
     let mut text = Vec::new(rt.alloc());
     for _ in 0..13_101 {

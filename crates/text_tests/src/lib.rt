@@ -1,4 +1,4 @@
-// Examples of texts, with results worked out by hand.
+//! Examples of texts, with results worked out by hand.
 #![tactic(auto)]
 
 #[cfg(test)]

@@ -1,4 +1,4 @@
-// Records that are written.
+//! Records that are written.
 use scripts::record::Record;
 use scripts::write::write_record;
 

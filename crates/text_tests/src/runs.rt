@@ -1,4 +1,4 @@
-// What a run asks before its first record.
+//! What a run checks before its first record.
 use faults::report::Report;
 use lattice::start::Start;
 use scripts::run::check_run;
@@ -15,7 +15,7 @@ fn cells_are_asked_for_first(rt: HostRuntime) -> Result<(), Fail> {
     assert_eq!(rt; check_run(&start, &[0; 4], b"undo\n", 1).ok(), Some(1));
     assert_eq!(rt; fault(&start, &[0; 3], b"undo\n"), Some((3, 10, 0, 0)));
     assert_eq!(rt; fault(&start, &[0; 5], b"nonsense"), Some((3, 10, 0, 0)));
-    // a fault from below keeps all its numbers
+    // the fault of a field is reported as it is
     assert_eq!(rt;
         fault(&start, &[0; 4], b"undo\nstep\tx\n"),
         Some((1, 22, 2, 2))

@@ -1,4 +1,4 @@
-// Scripts: how many records they have, or their first fault.
+//! Scripts: how many records they have, or their first fault.
 use faults::report::Report;
 use scripts::check::check;
 use scripts::record::Record;
@@ -77,7 +77,7 @@ fn faults_of_states_and_numbers(rt: HostRuntime) {
         (b"clear\n", (2, 25, 1, 0)),
         (b"flip\t0\t0\t1\n", (2, 25, 1, 0)),
         (b"flip\tx\ty\tz\n", (2, 25, 1, 0)),
-        // no numbers
+        // fields that are not numbers
         (b"step\t\n", (1, 22, 1, 2)),
         (b"step\t01\n", (1, 22, 1, 2)),
         (b"step\t-0\n", (1, 22, 1, 2)),
@@ -153,7 +153,7 @@ fn records_come_one_after_another(rt: HostRuntime) -> Result<(), Fail> {
     Ok(())
 }
 
-// A record that is refused is met again.
+// A record that is refused is read again.
 #[test]
 fn a_fault_leaves_the_records_where_they_are(rt: HostRuntime) -> Result<(), Fail> {
     let mut records = Records::new(b"undo\nclose\nundo\n", 1);

@@ -1,4 +1,4 @@
-// One line of the input.
+//! One line of the input.
 use anyhow::{Context, bail};
 use std::alloc::Global;
 

@@ -1,4 +1,4 @@
-// Reads texts from standard input, one on a line in hexadecimal digits, and prints what each is read as, to be held against an independent model.
+//! Reads texts in hexadecimal digits, a line of standard input each, and prints what each is read as, to be compared with an independent model.
 #![tactic(auto)]
 
 mod case;

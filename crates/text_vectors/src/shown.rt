@@ -1,4 +1,4 @@
-// What is printed of one text.
+//! What is printed for one text.
 use crate::case::{Case, Kind};
 use anyhow::Context;
 use boards::board_text::board_text;
@@ -9,7 +9,7 @@ use lattice::start::Start;
 use samples::cells::{digest, sevens};
 use scripts::check::check;
 
-// The numbers of a fault, and `rest` behind them.
+// The numbers of a fault, followed by `rest`.
 fn show_fault(rt: &HostRuntime, fault: RecordFault, rest: &str) -> anyhow::Result<()> {
     let report = Report::from(fault);
     let (layer, number) = (report.layer, report.number);

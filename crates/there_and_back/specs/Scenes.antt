@@ -1,4 +1,5 @@
--- The cells that a journey begins with, by column and row.
+-- The cells that a journey begins with.
+--     scene_cell s x y     the cell of column x and row y in the scene s
 use Rattle.std.specs.Prelude.{ℕ, ◌+◌, ◌*◌, ◌%◌, cond, ◌&&◌, ◌==◌, nat_le, nat_lt}
 use Rattle.there_and_back.specs.declared.scene.Scene.{Scene}
 use Rattle.there_and_back.specs.declared.scene.Scene.TheVariants.{Soup, Gas}

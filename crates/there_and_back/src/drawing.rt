@@ -1,4 +1,4 @@
-// A lattice as text: a line for each row, `#` for a present cell and `.` for an absent one.
+//! A lattice as text: a line for each row, `#` for a present cell and `.` for an absent one.
 ghost use Rattle.std.specs.Prelude.{◌≡◌, map, IfOk, string_bytes};
 ghost use Rattle.there_and_back.specs.Drawings.{sign};
 

@@ -1,4 +1,4 @@
-// Takes four lattices a way forward and the same way back, and shows where they come out.
+//! Moves four lattices forward and as many steps back, and shows where they come out.
 #![tactic(auto)]
 
 ghost use Rattle.std.specs.Prelude.{◌≡◌, if◌then◌else◌, codes};

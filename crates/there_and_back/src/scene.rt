@@ -1,4 +1,4 @@
-// The cells that a journey begins with.
+//! The cells that a journey begins with.
 ghost use Rattle.std.specs.Prelude.{◌≡◌, ◌<◌, IfOk};
 ghost use Rattle.lattice.specs.Cells.{by_place};
 ghost use Rattle.lattice.specs.Starts.{width_of, height_of};

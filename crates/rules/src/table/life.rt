@@ -1,4 +1,4 @@
-// The rule of Life, written out.
+//! Life, B3/S23, as a table of its values.
 ghost use Rattle.rules.specs.Rules.{SameAnswers, entry_of, table_answer, life};
 
 use super::TableRule;
@@ -23,7 +23,7 @@ const LIFE: [u8; 512] = [
     0, 0, 0, 0, 0, 0, 0, 0, 0, 0, 0, 0, 0, 0, 0, 0, 0, 0, 0, 0, 0, 0, 0, 0,
 ];
 
-// One computation over the whole table shows it to be Life's.
+// A single computation over the whole table shows that it is Life's.
 fn written_out() -> [u8; 512]
     ensures { SameAnswers (entry_of result) life }
 {
@@ -31,7 +31,7 @@ fn written_out() -> [u8; 512]
 }
 
 impl TableRule {
-    // The same answers as the count rule with birth 8 and survival 12.
+    /// Life: a table with the values of the count rule with birth 8 and survival 12.
     pub fn life() -> TableRule
         ensures { SameAnswers (table_answer result) life }
     {

@@ -1,4 +1,4 @@
--- So many rows were read, and have some cells.
+-- The rows before `checked` are read, and have some cells.
 use Rattle.std.proofs.Common.{ℕ, List}
 use Rattle.boards.proofs.Rows.{RowsRead}
 use Rattle.boards.proofs.check.check_rows.Given as goal

@@ -1,4 +1,4 @@
--- So many rows were read, and their cells are written.
+-- The rows before `row` are read, and their cells are written.
 use Rattle.std.proofs.Common.{◌*◌, take}
 use Rattle.boards.proofs.Rows.{RowsRead}
 use Rattle.boards.proofs.read.fill_rows.Given as goal

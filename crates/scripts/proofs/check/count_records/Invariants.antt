@@ -1,4 +1,4 @@
--- The records that were read, and those that are left, are as many as there were in all.
+-- The records read so far and those that are left are all records together.
 use Rattle.std.proofs.Common.{◌≡◌, ◌+◌, ◌≤◌, length, Ok}
 use Rattle.text.specs.Readers.{rest_of}
 use Rattle.faults.specs.Results.{◌>>=◌}

@@ -1,4 +1,4 @@
--- The bytes before the index are digits, and their number is what was read.
+-- The bytes before the index are digits, and `value` is the number that they write.
 use Rattle.std.proofs.Common.{◌≡◌, take, true}
 use Rattle.std.specs.Char.{is_ascii_digit}
 use Rattle.std.specs.List.{list_all}

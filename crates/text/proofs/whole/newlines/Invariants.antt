@@ -1,4 +1,4 @@
--- So many newlines were met so far.
+-- `count` is the number of newlines so far.
 use Rattle.std.proofs.Common.{◌≡◌, take}
 use Rattle.std.specs.List.{count_by}
 use Rattle.text.specs.Lines.{is_newline}

@@ -1,4 +1,4 @@
--- The map is among those that were not looked at yet.
+-- The map that is looked for is among those not yet compared.
 use Rattle.std.proofs.Common.{◌≡◌, drop}
 use Rattle.std.specs.List.{find}
 use Rattle.std.specs.Str.{bytes_eq}

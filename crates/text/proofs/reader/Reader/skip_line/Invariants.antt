@@ -1,4 +1,4 @@
--- The reader is still on the line on which it began, and nearer to the end of the text.
+-- The reader is still on the line where it began, and closer to the end of the text.
 use Rattle.std.proofs.Common.{◌≡◌, ◌<◌, ◌-◌, length}
 use Rattle.text.specs.Lines.{below_first}
 use Rattle.text.specs.Readers.{text_of, position_of, rest_of, line_of, fields_read_of}
