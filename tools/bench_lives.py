@@ -80,7 +80,7 @@ def told_fields(told):
 
 
 def show_events(first_counts, entries, life):
-    """A line for each entry. Where one is passed over, the counts are those before it."""
+    """A line for each entry. Where one is skipped, the counts are those before it."""
     both = [["passed over", *first_counts], ["passed over", *first_counts]]
     for entry, told in zip(entries, life.told):
         if told is None:

@@ -3,9 +3,9 @@
 It is meant to be read next to docs/BENCH.md, one section per concept. A bench here is a map, the
 lattice of the opening and the ledger, and nothing else. What it holds is made from the opening each
 time: an undo only moves an action from one list to the other, and no lattice is ever moved back by
-it. No bench is changed in place: the one afterwards is part of the answer.
+it. No bench is changed in place: the one afterwards is part of the result.
 
-Of the cells that a call is lent only the number is handed over, because a call that is lent a memory
+Of the cells that a call is lent only the number is passed on, because a call that is lent a memory
 of the right length is lent the cells of the opening.
 """
 
@@ -30,7 +30,7 @@ class Bench:
     undone: tuple = ()
     flips: tuple = ()
     state: str = REST
-    # what was made of this opening by this map already, for each list of actions; see `after_actions`
+    # what this map has already made of this opening, for each list of actions; see `after_actions`
     known: dict = field(default_factory=dict, compare=False, repr=False)
 
 
@@ -43,7 +43,7 @@ def area(bench):
     return bench.opening.width * bench.opening.height
 
 
-# --- What is held: docs/BENCH.md, "What is to be proved of every life" ----------------------------
+# --- What is held: docs/BENCH.md, "The law of every life" -----------------------------------------
 
 
 def after_steps(the_map, lattice, count):
@@ -109,11 +109,11 @@ LARGEST_COUNT = 10000
 LARGEST_MASK = 255
 LARGEST_ENTRIES = 256
 
-# `handed` is how many cells are handed over.
+# `handed` is how many cells the call is lent.
 
 
 def cells_refusal(bench, handed):
-    """10 if the cells that are handed over are not W x H, or None."""
+    """10 if the call is not lent W x H cells, or None."""
     if handed != area(bench):
         return 10
     return None
@@ -166,9 +166,9 @@ def flip_refusal(bench, handed, col, row, mask):
 
 # --- The seven calls: docs/BENCH.md, "Actions and the ledger" -------------------------------------
 
-# Each answers the bench afterwards, the answer (None if refused), and the refusal (None if accepted).
-# The answer is how many actions stand then; `open` and `close` give back only the bench, and that is
-# written so:
+# Each returns the bench afterwards, the answer (None if refused), and the refusal (None if accepted).
+# The answer is how many actions stand then; `open` and `close` return nothing but the bench, which is
+# written like this:
 GIVEN = "given"
 
 
@@ -258,7 +258,7 @@ def records_back(action):
 
 
 def reverse_script(bench):
-    """The text of the script that leads home from a resting bench."""
+    """The text of the reverse script of a resting bench."""
     records = []
     for action in reversed(bench.standing):
         records += records_back(action)
@@ -275,7 +275,7 @@ def write_reverse_script(bench, memory):
 
 # --- The run of a script: docs/BENCH.md, "The run of a script" ------------------------------------
 
-# The layer of a fault that the bench finds; the other two stand in text_model.
+# The layer of a fault that the bench finds; the other two are in text_model.
 BENCH = 3
 
 
@@ -304,13 +304,13 @@ def run(bench, handed, text, first):
     return bench, len(records), None
 
 
-# --- The way back: docs/BENCH.md, "What is to be proved of every life" ----------------------------
+# --- The way back: docs/BENCH.md, "The law of every life" -----------------------------------------
 
 
 @dataclass(frozen=True)
 class WayBack:
     script: bytes
-    # what the run answers, and its fault
+    # what the run returns, and its fault
     made: int | None
     fault: tuple | None
     # what the new bench holds at the end, and its four counts
@@ -319,14 +319,14 @@ class WayBack:
 
 
 def way_back(bench):
-    """The reverse script of a resting bench, run on a new bench over the same map on what is held."""
+    """The reverse script of a resting bench, run on a new bench with its map, opened on what it holds."""
     script = reverse_script(bench)
     home = new_bench(bench.the_map, held(bench))
     home, made, fault = run(home, area(bench), script, 1)
     return WayBack(script, made, fault, held(home), counts(home))
 
 
-# --- The mirror: docs/BENCH.md, "What is to be proved of every life" ------------------------------
+# --- The mirror: docs/BENCH.md, "The law of every life" -------------------------------------------
 
 # This step count has no opposite in its type.
 SMALLEST_COUNT = -2147483648
@@ -344,22 +344,22 @@ def mirrored(record):
     return record
 
 
-# --- Lives: docs/BENCH.md, "What is to be proved of every life" -----------------------------------
+# --- Lives: docs/BENCH.md, "The law of every life" ------------------------------------------------
 
 # A life is a map, an opening and entries. Besides the cells of the opening there is a second memory,
-# of which only the length is told. An entry is a call of the life, unless it is passed over.
+# of which only the length is given. An entry is a call of the life, unless it is skipped.
 
 
 @dataclass(frozen=True)
 class Entry:
     # the call, as a record
     record: tuple
-    # None: the call is handed the cells of the opening; a number: so many bytes of the second memory
+    # None: the call is lent the cells of the opening; a number: so many bytes of the second memory
     part: int | None = None
 
 
 def handed_over(bench, entry, second_length):
-    """How many cells the call is handed. A second memory that is too short is handed over whole."""
+    """How many cells the call is lent. A second memory that is too short is lent whole."""
     if entry.part is None:
         return area(bench)
     return min(entry.part, second_length)
@@ -369,7 +369,7 @@ def is_passed_over(bench, entry, second_length):
     """Whether an entry is no call of the life.
 
     It is none where the state does not have the call, and where a call that takes cells would get
-    other cells than those of the opening and could not know it by their number.
+    other cells than those of the opening and could not know it from their number.
     """
     word = entry.record[0]
     if not permits(bench, word):
@@ -380,15 +380,15 @@ def is_passed_over(bench, entry, second_length):
 
 
 def called(bench, record, handed):
-    """The bench after a call, and what is told of it: answer, refusal, and the four counts."""
+    """The bench after a call, and what is reported of it: answer, refusal, and the four counts."""
     bench, answer, refusal = call(bench, record, handed)
     return bench, (answer, refusal, counts(bench))
 
 
 def after_entry(bench, mirror, entry, second_length):
-    """Bench and mirror after an entry, and what is told of it.
+    """Bench and mirror after an entry, and what is reported of it.
 
-    That is None if the entry is passed over, and else a pair, for the bench and for the mirror.
+    That is None if the entry is skipped, and otherwise a pair, for the bench and for the mirror.
     """
     if is_passed_over(bench, entry, second_length):
         return bench, mirror, None
@@ -400,7 +400,7 @@ def after_entry(bench, mirror, entry, second_length):
 
 @dataclass(frozen=True)
 class Life:
-    # for each entry what `after_entry` tells of it
+    # for each entry what `after_entry` reports of it
     told: list
     # bench and mirror at the end, and what they hold
     bench: Bench
@@ -412,7 +412,7 @@ class Life:
 
 
 def live(the_map, opening, second_length, entries):
-    """All that is told of a life."""
+    """All that is reported of a life."""
     bench = new_bench(the_map, opening)
     mirror = mirror_of(bench)
     told = []

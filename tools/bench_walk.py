@@ -8,7 +8,7 @@ from samples import sown
 WIDTH = 12
 HEIGHT = 8
 
-# The calls, in their order; all are handed the whole cells.
+# The calls, in their order; all are lent the whole cells.
 CALLS = [
     ("undo",),
     ("step", 0),

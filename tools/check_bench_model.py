@@ -15,7 +15,7 @@ from text_model import REST, SESSION
 
 
 def text_of(*lines):
-    """A text of these lines, written with a blank for each tab."""
+    """A text of these lines, written with a space for each tab."""
     return b"".join(line.replace(" ", "\t").encode() + b"\n" for line in lines)
 
 
@@ -27,7 +27,7 @@ def from_hex(width, height, phase, text):
 
 
 class Mover:
-    """A bench that moves a lattice forward and back, and makes flips once more to take them back.
+    """A bench that goes back by moving its lattice back and by making flips once more.
 
     It keeps one list of entries, one for a step and one for a flip, and where in it each action ends;
     nothing of it is taken from the ledger or from the model's bench.
@@ -170,7 +170,7 @@ def records_forth(bench):
 
 
 def check_way_back(bench):
-    """The reverse script of a resting bench leads home, and the one from there leads back again."""
+    """The reverse script of a resting bench ends on the opening, and the one from there takes it back."""
     back = bench_model.way_back(bench)
     records, fault = text_model.check_script(back.script, 1)
     check("the reverse script is a script", fault, None)
@@ -187,7 +187,7 @@ def check_way_back(bench):
     mover = Mover(bench.the_map, held(bench))
     check("the run, by moves", mover.run(bench_model.area(bench), back.script, 1), (line_count, None))
     check("leads home, by moves", (mover.lattice, mover.counts()), (back.held, back.counts))
-    # from home the reverse script makes what stands, from the first action on
+    # from the opening the reverse script makes what stands, from the first action on
     home, _, _ = run(new_bench(bench.the_map, held(bench)), bench_model.area(bench), back.script, 1)
     there = bench_model.reverse_script(home)
     check("there again", there, text_model.script_written(records_forth(bench)))
@@ -558,7 +558,7 @@ ONE_EDIT = (1, 0, 0)
 STEPS = (("step", 1),) * 256
 FULL = (256, 0, 256)
 
-# What was done before; how many cells are handed over; number of the first line and lines of the
+# What was done before; how many cells are lent; number of the first line and lines of the
 # script; the answer, the fault; the counts afterwards, without the phase, and what stands.
 for before, handed, first, lines, made, fault, three, standing in [
     ([], 8, 1, [], 0, None, (0, 0, 0), ()),
@@ -568,7 +568,7 @@ for before, handed, first, lines, made, fault, three, standing in [
     ([("step", 2)], 8, 1, ["undo", "redo", "undo"], 3, None, (0, 1, 0), ()),
     ([("step", 2), ("undo",)], 8, 1, ["redo"], 1, None, (1, 0, 2), (("step", 2),)),
     ([("step", 2), ("undo",)], 8, 1, ["open", "clear", "close"], 3, None, (0, 0, 0), ()),
-    # 10 is told first, at line 0, whichever number the first line has
+    # 10 is reported first, at line 0, whichever number the first line has
     ([], 7, 1, ["step 2"], None, (3, 10, 0, 0), (0, 0, 0), ()),
     ([], 9, 100, ["step 2"], None, (3, 10, 0, 0), (0, 0, 0), ()),
     ([], 0, 1, [], None, (3, 10, 0, 0), (0, 0, 0), ()),
@@ -630,7 +630,7 @@ for record, part, second_length, outcome in [
     (("step", 1), 8, 8, "passed over"),
     (("step", 1), 9, 8, "passed over"),
     (("step", 1), 20, 9, 10),
-    # passed over, though it would be refused with the cells of the opening, too
+    # skipped, though it would be refused with the cells of the opening, too
     (("step", 0), 8, 8, "passed over"),
     (("undo",), 8, 8, "passed over"),
     (("redo",), 9, 8, "passed over"),
@@ -715,7 +715,7 @@ def any_part(cells, second_length):
     return chance.choice([0, 1, cells - 1, cells, cells, cells + 1, second_length, 2 * cells, 4294967295])
 
 
-# How often each word comes at rest; the last ones go often down to nothing, and up to the last again.
+# How often each word comes at rest; the last ones often undo everything, and redo all of it.
 HABITS = [
     {"step": 6, "undo": 4, "redo": 3, "open": 3},
     {"step": 6, "undo": 1, "redo": 1, "open": 6},
@@ -853,7 +853,7 @@ for number in range(1500):
 
 # --- What came ------------------------------------------------------------------------------------
 
-# Words and what became of their entries: accepted (None), a refusal, or passed over.
+# Words and what became of their entries: accepted (None), a refusal, or skipped.
 wanted = [(word, None) for word in text_model.RECORDS]
 wanted += [(word, 10) for word in ["step", "undo", "redo", "flip", "clear"]]
 wanted += [("step", 11), ("step", 17), ("undo", 12), ("redo", 13), ("flip", 15), ("flip", 16), ("flip", 17)]

@@ -24,7 +24,7 @@ check("lab", lab(EXAMPLE), text_of("done 5 0 3 0", "board 2 2 0", "row 0001", "r
 
 
 def answers(*lines):
-    """Lines that end with an answer: only the last blank of each is a tab."""
+    """Lines that end with `yes` or `no`: only the last space of each is a tab."""
     return b"".join("\t".join(line.rsplit(" ", 1)).encode() + b"\n" for line in lines)
 
 
@@ -35,7 +35,7 @@ check(
     home_and_mirror(EXAMPLE),
     text_of("done 5 0 3 0", "board 2 2 0", "row 0001", "row 0100", "home 5 0 3 0", *HEAD[1:]) + HOME + text_of("mirror 0 3 0") + SAME,
 )
-# critters, forward from one cell and then back, as on the page on the maps; an undo that stays
+# critters, forward from one cell and then back, as on the page on the maps; an undo that is not redone
 undone = text_of("map critters", *HEAD[1:], "step 1", "open", "flip 1 0 128", "close", "undo")
 check("lab, undone", lab(undone), text_of("done 5 1 1 1", "board 2 2 1", "row 0001", "row 0101"))
 check(
@@ -159,7 +159,7 @@ for lines, fault in [
     ([*HEAD, "open", "flip x y 1", "close"], (1, 22, 6, 2)),
     ([*HEAD, "open"], (2, 26, 6, 0)),
     ([*HEAD, "open", "flip 0 0 1"], (2, 26, 7, 0)),
-    # the script begins on the line behind the last row
+    # the script begins on the line after the last row
     (["map bbm", "board 2 4 0", *["row 0000"] * 4, "stop"], (2, 23, 7, 1)),
     (["map bbm", "board 4 2 0", *["row 00000000"] * 2, "open"], (2, 26, 6, 0)),
 ]:
@@ -282,7 +282,7 @@ class Pictures:
     def __init__(self, the_map, opening):
         self.the_map = the_map
         self.lattice = opening
-        # of each action: the lattices before and behind it, its entries, and what it adds to the clock
+        # of each action: the lattices before and after it, its entries, and what it adds to the clock
         self.stand = []
         self.undone = []
         # the lattice at the beginning of the session, and how many flips it has
@@ -374,7 +374,7 @@ def check_run_by_pictures(what, parts, done, fault, cells):
 
 
 def check_first(what, text, size, fault):
-    """That a fault of the text on a line does not hang on the lines behind, and that those before have none."""
+    """That a fault of the text on a line does not depend on the lines after it, and that those before have none."""
     _, _, line, _ = fault
     lines, _ = text_model.lines(text)
     if line > len(lines):
@@ -383,7 +383,7 @@ def check_first(what, text, size, fault):
     check(f"{what}: without the lines behind", same, fault)
     before = text_vectors.text_of_lines(lines[: line - 1])
     _, earlier = run_job(before, [0] * size)
-    # nothing, or what is behind the text: the refusal of a record comes after the check of the text
+    # nothing, a refused record (which comes after the check of the text), or that the text ends too early
     found = earlier is None or earlier[0] == 3 or earlier[1:3] in [(26, line), (32, line)]
     check(f"{what}: only the lines before", found, True)
 
@@ -401,7 +401,7 @@ def check_in_other_ways(what, size, text):
     area = parts[1].width * parts[1].height
     check(f"{what}: the memory behind", memory[area:], text_vectors.memory_before(size)[area:])
     check_run_by_pictures(what, parts, done, fault, memory[:area])
-    # `lab` says the same, for its memory is large enough
+    # `lab` prints the same, since its memory is large enough
     printed = lab(text).split(b"\n")
     if fault is not None:
         check(f"{what}: lab", printed, ["\t".join(str(part) for part in ["fault", *fault]).encode(), b""])
@@ -415,11 +415,11 @@ for size, text in job_vectors.vectors:
     check_in_other_ways(f"{size} {text[:200]}", size, text)
 
 
-# --- The way home and the mirror ------------------------------------------------------------------
+# --- The way back and the mirror ------------------------------------------------------------------
 
 
 def check_home_and_mirror(what, text):
-    """What is printed of a job that is done, told from the output of `lab` and from the job itself."""
+    """What is printed of a job that is done, computed from the output of `lab` and from the job itself."""
     done = lab(text)
     _, _, clock, standing, undone = done.split(b"\n")[0].split(b"\t")
     lines = text.split(b"\n")
@@ -503,7 +503,7 @@ def opening_of(name):
 balls = opening_of("collision.job")
 left, right = [(2, 0), (4, 2)], [(13, 0), (11, 2)]
 check("two balls", sorted(places(balls)), sorted(left + right))
-# by itself a ball runs straight on
+# a ball alone runs straight on
 for ball, way in [(left, 1), (right, -1)]:
     for count in range(8):
         moved = sorted((col + way * count, row + count) for col, row in ball)

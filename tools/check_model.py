@@ -192,7 +192,7 @@ for number in range(512):
     lives = all_nine == 3 or (all_nine == 4 and number & 16 > 0)
     check(f"Life's entry {number}", life_table[number], 1 if lives else 0)
 
-# `crooked` looks at each of the nine, and tells each two of them apart
+# `crooked` looks at each of the nine, and distinguishes each two of them
 
 CROOKED_TABLE = [(number * number // 13 + number // 5) % 2 for number in range(512)]
 check("crooked is a table", model.rule_fill_refusal(CROOKED_TABLE), None)
@@ -267,7 +267,7 @@ for phase in [0, 1]:
             model.advance_by(model.LIFE2, square, moves),
             from_hex(4, 4, phase, f"{byte} {byte} 00 00  {byte} {byte} 00 00  00 00 00 00  00 00 00 00"),
         )
-# The cases that tell left from right, above from below and there from back.
+# The cases that distinguish left from right, above from below and forward from back.
 lopsided_blocks = model.block_map([(7 * v + 3) % 16 for v in range(16)])
 west_lift = model.lift(lambda number: number >> 3 & 1)
 north_lift = model.lift(lambda number: number >> 1 & 1)
@@ -417,13 +417,13 @@ for width, height, seen in [
     numbers = model.neighbourhood_numbers(width, height, cells)
     check(f"all on {width} by {height}", numbers, [511] * (width * height))
 
-# A rule that answers 1 where exactly one of the nine is present, namely a given one: from a single
-# present cell in column 3, row 0 of 4 by 6 its answer 1 falls on one cell alone.
+# A rule that gives 1 where exactly one of the nine is present, namely a given one: from a single
+# present cell in column 3, row 0 of 4 by 6 it gives 1 at one cell alone.
 
 for bit, (col, row) in enumerate([
-    (0, 1), (3, 1), (2, 1),  # it lies north-west, north, north-east of this cell
-    (0, 0), (3, 0), (2, 0),  # west, on it, east
-    (0, 5), (3, 5), (2, 5),  # south-west, south, south-east
+    (0, 1), (3, 1), (2, 1),  # it lies in the row above this cell: one column before, the same, one after
+    (0, 0), (3, 0), (2, 0),  # in the row of this cell
+    (0, 5), (3, 5), (2, 5),  # in the row below
 ]):
     pointing = model.lift(lambda number, bit=bit: 1 if number == 1 << bit else 0)
     for phase in [0, 1]:
@@ -437,8 +437,8 @@ for bit, (col, row) in enumerate([
         check(f"pointing {bit} forward", pointing.forward(one), other)
         check(f"pointing {bit} back", pointing.backward(other), one)
 
-# With a rule that always answers 0 the lift exchanges; with one that always answers 1 it exchanges
-# after turning the past, and going back it turns the past after exchanging.
+# With a rule that always gives 0 the lift exchanges; with one that always gives 1 it exchanges after
+# inverting the past, and going back it inverts the past after exchanging.
 
 zero = model.lift(lambda number: 0)
 one_always = model.lift(lambda number: 1)
@@ -452,7 +452,7 @@ for phase in [0, 1]:
 
 # --- Layers, worked by hand -----------------------------------------------------------------------
 
-# Cell tables make this short: four cells hold the four low values, and what comes out is a table.
+# Cell tables make this short: four cells have the four low values, and what comes out is a table.
 
 exchange = model.cell_map(CELL_TABLES["exchange"])
 CYCLE = [1, 2, 3, 0]
@@ -490,7 +490,7 @@ for name, the_map, forward, backward in [
         expected = Lattice(2, 2, phase, [0xF8 + int(value) for value in backward.split()])
         check(f"{name} back", the_map.backward(values), expected)
 
-# `mixed` is twelve moves one after the other.
+# `mixed` is twelve moves, one after another.
 
 
 def mixed_by_hand(lattice):
@@ -641,9 +641,9 @@ for name, the_map, turns, keeps_pasts in maps:
 
 # --- The same results in another way --------------------------------------------------------------
 
-# The lift said at one blow, and without the numbers of the cells kept for a shape: forward a cell's
-# new past is its present, and its new present is its past XOR the answer; back its new present is its
-# past, and its new past is its present XOR the answer for the pasts around it.
+# The lift in one step, and without the numbers of the cells kept for a shape: forward a cell's new
+# past is its present, and its new present is its past XOR what the rule gives; back its new present is
+# its past, and its new past is its present XOR what the rule gives for the pasts around it.
 
 
 def answer_at(rule, lattice, col, row, bit_of):
@@ -679,7 +679,7 @@ for lattice in lattices():
         check(f"the lift of {name} at one blow", the_map.forward(lattice).cells, cells)
         cells = lifted_cells(rule, lattice, False)
         check(f"the lift of {name} back at one blow", the_map.backward(lattice).cells, cells)
-    # the exchange turns a lift round: going back is the exchange, the move forward, the exchange
+    # the exchange reverses a lift: going back is the exchange, the move forward, the exchange
     for name, rule in RULES:
         turned = model.conjugate(model.lift(rule), exchange)
         check(f"the lift of {name}, turned", turned.forward(lattice), model.lift(rule).backward(lattice))

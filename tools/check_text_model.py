@@ -14,7 +14,7 @@ from text_model import check_board, check_script, read_board, write_board
 
 
 def text_of(*lines):
-    """A text of these lines, written with a blank for each tab."""
+    """A text of these lines, written with a space for each tab."""
     return b"".join(line.replace(" ", "\t").encode("latin-1") + b"\n" for line in lines)
 
 
@@ -163,7 +163,7 @@ for text, first, fault in [
 ]:
     check(f"unfinished {text}", check_script(text, first), (None, fault))
 
-# The others: the lines with a blank for each tab, the number of the first, and the fault.
+# The others: the lines with a space for each tab, the number of the first, and the fault.
 for lines, first, fault in [
     # 23: no word
     ([""], 1, (2, 23, 1, 1)),
@@ -282,7 +282,7 @@ for text, memory, answer, afterwards in [
     (b"board\t2\t2\t0\nrow\t10a1\nrow\t1a0f\n", [9] * 4, (2, 2, 0, 30), [16, 161, 26, 15]),
     # a longer memory
     (b"board\t2\t2\t0\nrow\t0001\nrow\t02ff\n", [7, 7, 7, 7, 8, 9], (2, 2, 0, 30), [0, 1, 2, 255, 8, 9]),
-    # more text behind it, whatever it is
+    # more text after it, whatever it is
     (b"board\t2\t2\t0\nrow\t0001\nrow\t0203\nundo\n", [9] * 4, (2, 2, 0, 30), [0, 1, 2, 3]),
     (b"board\t2\t2\t0\nrow\t0001\nrow\t0203\n\n", [9] * 4, (2, 2, 0, 30), [0, 1, 2, 3]),
     (b"board\t2\t2\t0\nrow\t0001\nrow\t0203\nrow\t0405\n", [9] * 5, (2, 2, 0, 30), [0, 1, 2, 3, 9]),
@@ -303,7 +303,7 @@ for text, memory, answer, afterwards in [
 
 # --- The faults of a board: docs/TEXT.md, "Boards" and "Faults" -----------------------------------
 
-# The lines with a blank for each tab, the number of the first, and the fault; the memory has 4 cells.
+# The lines with a space for each tab, the number of the first, and the fault; the memory has 4 cells.
 for lines, first, fault in [
     # 32, where there is no line at all
     ([], 1, (2, 32, 1, 0)),
@@ -393,7 +393,7 @@ for lines, first, fault in [
     check(f"board {lines}", read_board(text, first, [9, 8, 7, 6]), (None, [9, 8, 7, 6], fault))
     if fault[1] != 30:
         check(f"board {lines} checked", check_board(text, first), (None, fault))
-    # 20 and 21 stand before all of them, and speak of the whole text
+    # 20 and 21 come before all of them, and are about the whole text
     unfinished = (2, 21, first + len(lines), 0)
     check(f"board {lines}, unfinished", read_board(text + b"x", first, [9]), (None, [9], unfinished))
     long = text + b"\n" * 65537
@@ -491,7 +491,7 @@ def check_script_in_other_ways(text):
         check(f"script {text} written", text_model.script_written(records), text)
         check(f"script {text}: a record on each line", len(records), text.count(b"\n"))
     elif fault[1] in [22, 23, 24, 25]:
-        # nothing behind that line matters, and with nothing wrong before it
+        # nothing after that line matters, and with nothing wrong before it
         _, _, line, _ = fault
         up_to_it = lines_up_to(text, line)
         check(f"script {text}: the rest of it", check_script(up_to_it, 1), (None, fault))
@@ -638,7 +638,7 @@ for name, text in read_texts.FILES:
     first_line = read_texts.printed(name, text).split("\n")[0].split("\t")
     if first_line[1] == "fault":
         met.add(int(first_line[3]))
-# 30 is not met, for the memory of that program is large enough for every board
+# 30 is not met, since the memory of that program is large enough for every board
 check("each cause has a file", met, {1, 2, 3, 20, 21, 22, 23, 24, 25, 26, 31, 32})
 files = dict(read_texts.FILES)
 check("too long by a byte", len(files["too_long.script"]), 65537)

@@ -4,7 +4,7 @@ It is meant to be read next to docs/TEXT.md and docs/PROGRAMS.md, one section pe
 memory of a job is a list, and a run changes it in place, because which part of it may change is part
 of what a job is.
 
-With `lab` or `home_and_mirror` it is that program: it reads a job from standard input.
+With `lab` or `home_and_mirror` it is that program, and takes a job on standard input.
 """
 
 import sys
@@ -81,7 +81,7 @@ def run_job(text, memory):
     bench = bench_model.new_bench(job.the_map, job.opening)
     area = bench_model.area(bench)
     bench, made, fault = bench_model.run(bench, area, job.script, job.script_line)
-    # only behind the check of the whole text is anything written
+    # nothing is written before the whole text is checked
     if fault is None or fault[0] == bench_model.BENCH:
         memory[:area] = bench_model.held(bench).cells
     if fault is not None:
@@ -101,7 +101,7 @@ def fault_line(fault):
 
 
 def of_the_bench(counts):
-    """The clock, how many actions stand and how many were undone, in the order in which they are printed."""
+    """The clock, how many actions stand and how many were undone, in the order of printing."""
     standing, undone, clock, _ = counts
     return clock, standing, undone
 
@@ -126,7 +126,7 @@ def yes_or_no(holds):
 
 
 def home_lines(done):
-    """The way back: its run, the board that it ends on, and whether this is the way home."""
+    """The way back: its run, the board that it ends on, and whether this is the opening again."""
     opening = done.job.opening
     back = bench_model.way_back(done.bench)
     assert back.fault is None, back.fault
@@ -150,7 +150,7 @@ def mirror_after(done):
 
 
 def mirror_lines(done):
-    """The counts of the mirror, and in what it is as the bench."""
+    """The counts of the mirror, and what it has in common with the bench."""
     bench, mirror = done.bench, mirror_after(done)
     held, held_by_mirror = bench_model.held(bench), bench_model.held(mirror)
     clock, standing, undone = of_the_bench(bench_model.counts(mirror))

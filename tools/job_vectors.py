@@ -90,7 +90,7 @@ def good_records(width, height, parts):
         if bench.standing:
             choices += [[("undo",)], [("undo",)]]
         if bench.undone:
-            # they are rarer else, as most records forget what was undone
+            # they are rarer otherwise, as most records forget what was undone
             choices += [[("redo",)]] * 3
         part = chance.choice(choices)
         for record in part:
@@ -126,7 +126,7 @@ for count in [9999, 10000, -10000]:
     add(text_of("map tron", "board 2 2 1", "row 0100", "row 0000", "step -1", f"step {count}", "undo"), 4)
 
 
-# --- Jobs that are cut behind each of their bytes -------------------------------------------------
+# --- Jobs that are cut after each of their bytes --------------------------------------------------
 
 
 def job_to_cut(name):
@@ -139,7 +139,7 @@ def job_to_cut(name):
 for name in NAMES:
     for at in range(1 + len(job_to_cut(name))):
         add(job_to_cut(name)[:at], 5)
-# and with a newline behind the cut
+# and with a newline after the cut
 for at in range(1 + len(job_to_cut("critters"))):
     add(job_to_cut("critters")[:at] + b"\n", 5)
 
@@ -230,7 +230,7 @@ for width, height in [(2, 2), (4, 4), (2, 8)]:
     lines, _ = text_model.lines(any_opening(width, height))
     for there in range(2 + height):
         add(text_of_lines(lines[:there]), width * height)
-        # 23, for the next line is no row
+        # 23, since the next line is no row
         add(text_of_lines(lines[:there]) + text_of("step 1"), width * height - 1)
 for line in ["board 256 64 0", "board 128 128 1", "board 2 256 0"]:
     add(map_line("mixed") + text_of(line), 16384)
@@ -241,7 +241,7 @@ for width, height in [(2, 2), (4, 2), (6, 4), (8, 8)]:
     for size in [0, 1, area // 2, area - 1]:
         opening = any_opening(width, height)
         add(opening + any_script(width, height), size)
-        # before the faults of the script, and behind the others of the board
+        # before the faults of the script, and after the others of the board
         add(opening + text_of(chance.choice(text_vectors.BAD_AT_REST)), size)
         add(opening + text_of("undo"), size)
         add(with_line(opening, 1 + height, b"row\t0"), size)
@@ -253,12 +253,12 @@ add(map_line("tron") + any_board(256, 2) + text_of("step 2"), 512)
 
 
 def opened(width, height):
-    """A session that stands open."""
+    """A session that is still open."""
     return [("open",), *in_session(width, height)]
 
 
 def add_bad_line(line, is_in_session):
-    """A line behind good records, and sometimes also before others."""
+    """A line after good records, and sometimes also before others."""
     width, height = any_shape()
     before = good_records(width, height, chance.randrange(4))
     after = good_records(width, height, chance.randrange(4))
@@ -282,7 +282,7 @@ for _ in range(6):
     for line in ["step 1", "step 01", "undo", "redo", "open"]:
         add_bad_line(line, True)
 
-# 26, also behind records that the bench would refuse
+# 26, also after records that the bench would refuse
 for parts in range(8):
     width, height = any_shape()
     text = good_job(width, height, parts) + text_model.script_written(opened(width, height))
@@ -295,7 +295,7 @@ for parts in range(8):
 
 REFUSED_AT_REST = [
     [("step", 0)], [("step", 10001)], [("step", -10001)], [("step", 999999)], [("step", -999999)],
-    # nothing is undone behind a step, and nothing stands behind more undos than actions
+    # after a step nothing is undone, and after more undos than actions nothing stands
     [("step", 1), ("redo",)], [("step", -1), ("undo",), ("redo",), ("redo",)], [("undo",)] * 12,
     [("step", 2), ("undo",), ("open",), ("close",), ("redo",)], [("redo",)] * 12,
     [("open",), ("flip", 1, 1, 2), ("close",)] + [("undo",)] * 8,
@@ -364,7 +364,7 @@ for which, more in enumerate(FILLED):
         add(opening + STEPS[: len(STEPS) // 2] + text_of("open") + FLIPS[: len(FLIPS) // 2] + text_of("close") + more, 4)
 
 
-# --- Jobs by chance, good and damaged -------------------------------------------------------------
+# --- Random jobs, good and damaged ----------------------------------------------------------------
 
 # The model makes every step, so jobs in which more of them stand on some line are left out.
 MOST_MOVES = 300

@@ -1,8 +1,8 @@
 """Files, arguments and output of the program `home_and_mirror`, computed by the model.
 
-With `args` it prints the names of the files, one on a line, in the order in which the program gets
-them, and with `stdout` what the program must print for them. With the name of a folder it writes the
-files into that folder.
+With `args` it prints the names of the files, one on a line, in the order of the program's arguments,
+and with `stdout` what the program must print for them. With the name of a folder it writes the files
+into that folder.
 """
 
 import pathlib
@@ -12,7 +12,7 @@ import job_model
 
 
 def text_of(*lines):
-    """A text of these lines, written with a blank for each tab."""
+    """A text of these lines, written with a space for each tab."""
     return b"".join(line.replace(" ", "\t").encode() + b"\n" for line in lines)
 
 
@@ -24,7 +24,7 @@ FIRST_LINES = [*ONE_CELL, "step 1", *["open", "flip 0 0 1", "close"], "step -1"]
 
 
 def drawn_row(signs):
-    """A row of single signs: a digit is the cell itself, and a point is 0."""
+    """A row of single characters: a digit is the cell itself, and a point is 0."""
     return "row " + "".join("00" if sign == "." else "0" + sign for sign in signs)
 
 
@@ -34,7 +34,7 @@ def drawn_job(name, drawing, *script):
     return text_of(f"map {name}", board, *[drawn_row(signs) for signs in drawing], *script)
 
 
-# Two balls, each of two cells one behind the other, come from above: the left one runs to the right,
+# Two balls, each of two cells one after the other, come from above: the left one runs to the right,
 # and the right one to the left. In the fourth step their leading cells meet, and after the seventh both
 # balls run on downwards, the left one to the left again and the right one to the right.
 COLLISION = drawn_job(
@@ -56,7 +56,7 @@ COLLISION = drawn_job(
 )
 
 # A crowd from which single cells and pairs fly off. The number of steps is even, since each step of
-# critters turns nearly all cells over.
+# critters inverts nearly all cells.
 GAS = drawn_job(
     "critters",
     [
@@ -80,7 +80,7 @@ GAS = drawn_job(
     "step 40",
 )
 
-# A single cell, which keeps one block after another from turning over.
+# A single cell, which keeps one block after another from being inverted.
 PATTERN = drawn_job(
     "tron",
     [
@@ -164,7 +164,7 @@ EDITED = text_of(
 )
 
 
-# --- Jobs with a fault: the worked example, but for what the name says ----------------------------
+# --- Jobs with a fault: the worked example, except for what the name says -------------------------
 
 
 def first_with(at, line):
@@ -173,17 +173,17 @@ def first_with(at, line):
 
 
 def first_up_to(at):
-    """The worked example without what stands behind line number `at`."""
+    """The worked example without what follows line number `at`."""
     return text_of(*FIRST_LINES[:at])
 
 
 FIRST = text_of(*FIRST_LINES)
 OPENING = first_up_to(4)
 
-# one byte longer than a text may be, and good but for that
+# one byte longer than a text may be, and otherwise good
 TOO_LONG = FIRST + text_of("step 1") + text_of("undo", "redo") * 6545 + text_of("undo")
 
-# Name and bytes, in the order in which the program gets them.
+# Name and bytes, in the order of the program's arguments.
 FILES = [
     ("first.job", FIRST),
     ("collision.job", COLLISION),

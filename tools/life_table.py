@@ -1,4 +1,4 @@
-"""Prints the 512 entries of Life as a table rule, 32 to a line; entry N is its answer for N."""
+"""Prints the 512 entries of Life as a table rule, 32 to a line; entry N is what it gives for N."""
 
 import model
 

@@ -7,7 +7,7 @@ Counted are lines that are not blank and not only a comment.
 code    src/*.rt without the lines of contracts
 contr   lines of src/*.rt that begin a clause, a ghost member or a ghost import, or are a tactic
 specs   definitions: specs/*.antt whose first line does not say "Assumes nothing"
-laws    lemmas that stand in specs/ (first line "Assumes nothing"): nothing that must be believed
+laws    lemmas that are in specs/ (first line "Assumes nothing"): nothing that must be believed
 lemmas  proofs/*.antt
 hand    proofs of single functions: Answers.antt and Invariants.antt in the folders below proofs/
 edits   files must-fail/*.edit

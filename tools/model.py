@@ -164,8 +164,8 @@ def corner_of(width, height, phase, col, row):
 def block_places(width, height, phase):
     """For each cell: the numbers of the four cells of its block, and which of the four it is.
 
-    The four stand in the order in which they count 1, 2, 4 and 8. Kept once computed, because the
-    places do not depend on what is in the cells.
+    The four are ordered by what they count: 1, 2, 4 and 8. Kept once computed, because the places do
+    not depend on what is in the cells.
     """
     places = []
     for row in range(height):
@@ -223,7 +223,7 @@ def block_map(table):
 
 
 def rewritten_cells(table, lattice):
-    """The cells after the low two bits of each were replaced by the table's entry for them."""
+    """The cells after present and past of each were looked up in the table and set to the entry."""
     return [(cell & 0b11111100) | table[cell & 0b11] for cell in lattice.cells]
 
 
@@ -272,7 +272,7 @@ def count_rule_refusal(birth, survival):
 
 
 def count_rule_answer(birth, survival, number):
-    """What the count rule of these masks answers for a neighbourhood number."""
+    """What the count rule of these masks gives for a neighbourhood number."""
     own = (number >> OWN_BIT) & 1
     neighbours = sum((number >> bit) & 1 for bit in range(9) if bit != OWN_BIT)
     mask = survival if own == 1 else birth
@@ -315,7 +315,7 @@ def fill_rule_table(table, numbers):
 
 
 def table_rule(table):
-    """The table rule of a rule table: entry N is the answer for N."""
+    """The table rule of a rule table: for N it gives entry N."""
     return lambda number: table[number]
 
 
@@ -356,7 +356,7 @@ def neighbourhood_numbers(width, height, cells):
 
 
 def with_answers_in_pasts(answers, width, height, cells):
-    """The cells after the rule's answer at each was XORed into its past."""
+    """The cells after the past of each was inverted where the rule gives 1."""
     numbers = neighbourhood_numbers(width, height, cells)
     return [cell ^ (answers[number] << 1) for cell, number in zip(cells, numbers)]
 
@@ -383,7 +383,7 @@ def lift_backward(answers, lattice):
 
 
 def lift(rule):
-    # a rule has only 512 answers, so it is asked for each of them once
+    # a rule gives only 512 values, so each is computed once
     answers = [rule(number) for number in range(RULE_SIZE)]
     return Map(
         forward=lambda lattice: lift_forward(answers, lattice),

@@ -1,8 +1,8 @@
 """Files, arguments and output of the program `read_texts` (docs/PROGRAMS.md), computed by the model.
 
 With `data` and the name of a folder it writes the files into that folder. With `args` it prints their
-names, one on a line, in the order in which the program gets them, and with `stdout` what the program
-must print for them.
+names, one on a line, in the order of the program's arguments, and with `stdout` what the program must
+print for them.
 """
 
 import pathlib
@@ -13,7 +13,7 @@ import text_model
 
 
 def text_of(*lines):
-    """A text of these lines, written with a blank for each tab."""
+    """A text of these lines, written with a space for each tab."""
     return b"".join(line.replace(" ", "\t").encode() + b"\n" for line in lines)
 
 
@@ -45,7 +45,7 @@ GLIDER = text_of(
 # each digit once
 SMALL = text_of("board 2 4 1", "row 0123", "row 4567", "row 89ab", "row cdef")
 
-# Name and bytes, in the order in which the program gets them.
+# Name and bytes, in the order of the program's arguments.
 FILES = [
     ("good.script", GOOD),
     ("empty.script", b""),
@@ -95,7 +95,7 @@ def script_lines(text):
 
 
 def board_lines(text):
-    """The line of the board, and behind it the board written back."""
+    """The line of the board, and after it the board written back."""
     answer, memory, fault = text_model.read_board(text, 1, [0] * model.LARGEST_AREA)
     if fault is not None:
         return text_model.fault_written(fault) + "\n"

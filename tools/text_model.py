@@ -2,8 +2,8 @@
 
 It is meant to be read next to docs/TEXT.md, one section per concept. A text is a `bytes`, and so is a
 memory for text; a cells memory is a list of numbers. No memory is changed in place: what it holds
-afterwards is part of the answer. The number of the first line is handed over everywhere; from there
-on the lines are counted, with no upper end.
+afterwards is part of the result. Every function is given the number of the first line; from there on
+the lines are counted, with no upper end.
 """
 
 import model
@@ -40,7 +40,7 @@ def number(field):
 
 
 def number_of_step(field):
-    """The number that the field of a `step` is, or None: here a minus may stand in front."""
+    """The number that the field of a `step` is, or None: here there may be a minus in front."""
     if not field.startswith(b"-"):
         return number(field)
     size = number(field[1:])
@@ -230,7 +230,7 @@ def row_line_written(cells):
 
 
 def board_in(text, first):
-    """The lattice in front of a text and how many bytes it took (both None if there is a fault), and the fault."""
+    """The lattice at the beginning of a text and how many bytes it took (both None if there is a fault), and the fault."""
     fault = text_fault(text, first)
     if fault is not None:
         return None, None, fault
@@ -249,7 +249,7 @@ def board_in(text, first):
         if fault is not None:
             return None, None, fault
         cells += row_cells
-    # each line has a newline besides
+    # each line also has a newline
     taken = sum(len(line) + 1 for line in finished[: 1 + height])
     return model.Lattice(width, height, phase, cells), taken, None
 

@@ -41,7 +41,7 @@ def add_board(text, size, first=None):
 
 
 def text_of(*lines):
-    """A text of these lines, written with a blank for each tab."""
+    """A text of these lines, written with a space for each tab."""
     return b"".join(line.replace(" ", "\t").encode("latin-1") + b"\n" for line in lines)
 
 
@@ -166,7 +166,7 @@ BAD_IN_SESSION = [
 
 
 def opened():
-    """A session that stands open."""
+    """A session that is still open."""
     return [("open",)] + [in_session() for _ in range(chance.randrange(3))]
 
 
@@ -175,7 +175,7 @@ def flips():
 
 
 def add_bad_line(line, which, shortest, before, after):
-    """Two of the three places, in turn: behind what must stand before it, in the middle, as the last line."""
+    """Two of the three places, in turn: after what must come before it, in the middle, as the last line."""
     texts = [shortest + text_of(line) + after, before + text_of(line) + after, before + text_of(line)]
     add_script(texts[which % 3])
     add_script(texts[(which + 1) % 3])

@@ -1,4 +1,4 @@
-"""Holds three programs against each other over random or damaged jobs: `lab`, the first model, the second model.
+"""Compares three programs over random or damaged jobs: `lab`, the first model, the second model.
 
 The first model is tools/job_model.py, and the second one the C++ program lab.cpp, which knows nothing of
 the first. All three must print the same bytes for every job. Ends with status 1 if they do not, or if a
@@ -34,7 +34,7 @@ LAB = HERE.parent.parent / "crates" / "lab" / "out" / "lab"
 
 @dataclasses.dataclass(frozen=True)
 class Programs:
-    # the program that runs another one and tells what it took
+    # the program that runs another one and reports what it took
     measured: pathlib.Path
     lab: pathlib.Path
     # None if it is left out
@@ -62,7 +62,7 @@ HANG, CRASH, ERRORS = b"hang\n", b"crash\t%d\n", b"errors\n"
 
 
 def judged(status, answer, errors):
-    """The answer of a run that ended as it must, or else what stands for it and is no answer of a program."""
+    """The answer of a run that ended as it must; for any other run, a text that is no answer of a program."""
     # the signal that `measured` sends when the time is over
     if status == -signal.SIGALRM:
         return HANG
@@ -97,7 +97,7 @@ def first_answer(job):
 
 
 def as_list(texts):
-    """Texts one behind the other, each behind its length, as the second model reads and writes them."""
+    """Texts one after another, each preceded by its length, as the second model reads and writes them."""
     return b"".join(len(text).to_bytes(8, "little") + text for text in texts)
 
 
@@ -111,7 +111,7 @@ def from_list(texts):
 
 
 def run_of_second(programs, arguments, job, seconds):
-    """Its answer, or what stands for one."""
+    """Its answer, or a text that is none."""
     try:
         run = subprocess.run([programs.second, *arguments], input=job, capture_output=True, timeout=seconds)
     except subprocess.TimeoutExpired:
@@ -158,7 +158,7 @@ def kind_of(job, answer):
 
 
 # All that docs/REFUSALS.md and docs/TEXT.md say that a job can meet in `lab`: layer, cause and field, by
-# the place of the line. 30 is not met, for its memory is large enough, and 10 is not, for it is whole.
+# the place of the line. 30 is not met, since its memory is large enough, and 10 is not, since it is whole.
 CAUSES = {
     "whole text": [(2, 20, 0)],
     "map line": [(2, 21, 0), (2, 32, 0), (2, 23, 1), (2, 24, 0), (2, 9, 2)],
@@ -268,7 +268,7 @@ def spelled(kind):
 
 
 def report(total, jobs):
-    """Prints what came of it, and answers whether all is well."""
+    """Prints what came of it, and returns whether all is well."""
     for kind in [*KINDS, *[kind for kind in total.kinds if kind not in KINDS]]:
         print(f"{total.kinds[kind]:8} {spelled(kind)}")
     unknown, missing = wrong_kinds(total, jobs)

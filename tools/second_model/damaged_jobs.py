@@ -82,7 +82,7 @@ def replaced(text, place, byte):
 
 
 def with_one_changed(chance, text, which, change):
-    """The text after a change of one of these bytes: `change` answers what stands there then."""
+    """The text after a change of one of these bytes: `change` returns what is there then."""
     places = places_of(text, which)
     if not places:
         return text
@@ -216,7 +216,7 @@ def tab_at_the_end(chance, text):
 
 
 def with_line_changed(chance, text, change):
-    """The text after a change of the fields of one line: `change` answers them anew."""
+    """The text after a change of the fields of one line: `change` returns the new ones."""
     lines = text.split(b"\n")
     which = chance.randrange(len(lines))
     lines[which] = b"\t".join(change(text_model.fields(lines[which])))
@@ -232,7 +232,7 @@ def with_field_changed(chance, text, change):
 
 
 def with_number_changed(chance, text, change):
-    """The text after a change of one of the numbers that stand behind a tab."""
+    """The text after a change of one of the numbers that follow a tab."""
     lines = [text_model.fields(line) for line in text.split(b"\n")]
     places = [(at, place) for at, line in enumerate(lines) for place in range(1, len(line)) if is_number(line[place])]
     if places:
@@ -274,7 +274,7 @@ def digit_replaced(chance, text):
 
 
 def digits_exchanged(chance, text):
-    """Two digits that stand side by side."""
+    """Two digits side by side."""
     digits = text_model.CELL_DIGITS
     places = [place for place in places_of(text[:-1], digits) if text[place + 1] in digits]
     if not places:
@@ -336,7 +336,7 @@ def line_dropped(chance, text):
 
 
 def line_repeated(chance, text):
-    """Once more, or so often that a journal gets full."""
+    """Once more, or so often that a journal becomes full."""
     lines = cut_into_lines(text)
     if not lines:
         return text
@@ -360,7 +360,7 @@ def other_job(chance):
 
 
 def spliced(chance, text):
-    """The front of a job and the rest of another, cut anywhere or behind lines."""
+    """The front of a job and the rest of another, cut anywhere or after lines."""
     other = other_job(chance)
     if chance.randrange(2) == 0:
         return text[: any_place(chance, text)] + other[any_place(chance, other) :]
@@ -412,7 +412,7 @@ def damaged(chance, text):
 
 def job(seed, number):
     chance = random.Random(f"damaged {seed} {number}")
-    # mostly good ones, as a fault hides what is behind it
+    # mostly good ones, as a fault hides what comes after it
     whole = random_jobs.refused_job if chance.randrange(5) == 0 else random_jobs.good_job
     text = whole(chance, True)
     answer = damaged(chance, text)

@@ -1,10 +1,10 @@
 // A second model of `lab`, written from docs/ alone.
 //
-//   lab               reads one job from standard input, prints what it comes to
+//   lab               takes one job on standard input, prints what it comes to
 //   lab --list FILE   the same for many jobs: FILE is a sequence of (length, bytes), the length in
-//                     8 bytes, the lowest first; the answers are printed in the same form
+//                     8 bytes, the lowest first; the results are printed in the same form
 //
-// Status 0, also where the answer is a fault; 1 if input or output fails.
+// Status 0, also where the result is a fault; 1 if input or output fails.
 
 #include <algorithm>
 #include <array>
@@ -204,8 +204,8 @@ void replace_cells(Lattice& lattice, const CellTable& table) {
 constexpr unsigned life_birth = 8;
 constexpr unsigned life_survival = 12;
 
-// XORs Life's answer into every past. Only presents are read, so the order of the cells is free.
-// On a side of 2 one cell stands on both sides, and is counted for each.
+// XORs what Life gives into every past. Only presents are read, so the order of the cells is free.
+// On a side of 2 one cell is on both sides, and is counted for each.
 void answer_cells(Lattice& lattice) {
     const int width = lattice.width;
     std::array<int, most_side + 2> column{};  // presents of three cells; column x is at x + 1
@@ -401,7 +401,7 @@ class Bench {
 public:
     Bench(const NamedMap& its_map, Lattice& its_lattice) : map(its_map), lattice(its_lattice) {}
 
-    // Makes a record, or answers the number of the cause why not.
+    // Makes a record, or returns the number of the cause why not.
     std::optional<int> make(const Record& record) {
         switch (record.word) {
             case Word::step: return step(record.numbers[0]);

@@ -3,7 +3,7 @@
        measured SECONDS FILE PROGRAM
 
    The program has the standard input, output and error of this one, and is ended by SIGALRM after so
-   many seconds. The kernel counts to the memory of a child what its parent has when it begins, and
+   many seconds. The kernel counts as memory of a child what its parent has when the child begins, and
    Python has ten times as much as `lab`; so Python starts this small program, and it starts `lab`. */
 
 #include <stdio.h>
@@ -27,7 +27,7 @@ int main(int count, char **arguments)
     double begin = now();
     pid_t child = fork();
     if (child == 0) {
-        /* an alarm outlasts the beginning of another program */
+        /* an alarm stays set when the process becomes another program */
         alarm(atoi(arguments[1]));
         execv(arguments[3], arguments + 3);
         _exit(127);

@@ -1,6 +1,6 @@
-"""Makes random jobs, good ones and refused ones, so that programs can be held against each other.
+"""Makes random jobs, good ones and refused ones, so that programs can be compared.
 
-Job number k of a seed is made by a chance of its own, so that it does not depend on how many are asked
+Job number k of a seed has random numbers of its own, so that it does not depend on how many are asked
 for. With a seed and a number it prints that job.
 """
 
@@ -10,7 +10,7 @@ import sys
 
 # --- What a run costs -----------------------------------------------------------------------------
 
-# What a move costs the first model for each cell, if a block map costs 1; it is the slowest of the three.
+# What a move costs the first model, the slowest of the three, for each cell, if a block map costs 1.
 WORK = {b"bbm": 1, b"critters": 1, b"tron": 1, b"life2": 2, b"mixed": 12}
 NAMES = list(WORK)
 
@@ -137,7 +137,7 @@ def any_draft(chance, is_small):
 
 
 class Keeper:
-    """Writes records, and books what a bench would count, to know which it would make next and at what cost."""
+    """Writes records, and counts what a bench would count, to know which it would make next and at what cost."""
 
     def __init__(self, cost, budget):
         self.lines = []
@@ -174,7 +174,7 @@ class Keeper:
         self.put([word], others[-1][1])
 
     def session(self, inside, flips):
-        """A session with these lines, of which so many flips stand in the end."""
+        """A session with these lines, of which so many flips are left at the end."""
         for line in [[b"open"], *inside, [b"close"]]:
             self.put(line)
         self.undone.clear()
@@ -201,7 +201,7 @@ def any_flip(chance, width, height):
 
 
 def any_inside(chance, draft, room, most):
-    """Flips and clears of a session, and how many flips stand in the end: never more than there is room for."""
+    """Flips and clears of a session, and how many flips are left at the end: never more than there is room for."""
     lines, flips = [], 0
     for _ in range(chance.randint(0, most)):
         if flips == room or chance.randrange(8) == 0:
@@ -287,7 +287,7 @@ SESSION_BYTES, CLEAR_BYTES = 11, 6
 
 def idle_lines(chance, length):
     """Lines of just so many bytes, 66 at least, that change nothing: sessions in which nothing is flipped."""
-    # so that the rest can be parted into clears
+    # so that the rest can be divided into clears
     sessions = -length % CLEAR_BYTES or CLEAR_BYTES
     clears = (length - SESSION_BYTES * sessions) // CLEAR_BYTES
     # as long as these clears is one session for each byte of a clear
@@ -302,7 +302,7 @@ def idle_lines(chance, length):
 
 
 def lengthen(chance, draft, length):
-    """Makes the text so long. A session forgets what was undone, so these stand in front of all redos or behind them."""
+    """Makes the text so long. A session forgets what was undone, so these come before all redos or after them."""
     short = length - len(written(draft))
     if short >= 66:
         lines = idle_lines(chance, short)
@@ -382,7 +382,7 @@ def with_other_count(chance, line):
 
 
 def sometimes(chance, change, line):
-    """The line, at times with a fault, so that another one on the same line is seen to be told before it."""
+    """The line, at times with a fault, so that another one on the same line is seen to be reported before it."""
     return change(chance, line) if chance.randrange(4) == 0 else line
 
 
@@ -407,7 +407,7 @@ def any_record(chance, words, draft):
 
 
 def in_sessions(script):
-    """For each place before a line, and for the one behind the last, whether it is in session."""
+    """For each place before a line, and for the one after the last, whether it is in session."""
     answer = [False]
     for line in script:
         answer.append({b"open": True, b"close": False}.get(line[0], answer[-1]))
@@ -667,7 +667,7 @@ def head_cut(chance, draft):
 
 
 def unfinished(chance, text):
-    """Cut in one of its lines, or with something behind its last newline."""
+    """Cut in one of its lines, or with something after its last newline."""
     if text == b"" or chance.randrange(3) == 0:
         return text + chance.choice([b"\t", b"\r", b"\x00", b"undo", b"\xff", b" ", b"x"])
     lines = text.split(b"\n")[:-1]

@@ -17,10 +17,10 @@ LAB = HERE.parent.parent / "crates" / "lab" / "out" / "lab"
 
 # --- The C ----------------------------------------------------------------------------------------
 
-# No -march=native: the code is to be for the same processors as that of `lab`.
+# No -march=native: the code should be for the same processors as that of `lab`.
 COMPILE = ["gcc", "-O3"]
 
-# How each goes round the edge, and what the compiler is told for it.
+# How each goes round the edge, and the option of the compiler for it.
 VARIANTS = {
     "remainder": [],
     "comparison": ["-DWRAP_BY_COMPARISON"],

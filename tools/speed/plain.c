@@ -1,6 +1,6 @@
 /* Runs a job whose script is one line `step N`, N above 0, and prints what `lab` prints for it.
 
-   It is to be the C that one would write first, for `lab` to be timed against: do not make it faster.
+   It should be the C that one would write first, for `lab` to be timed against: do not make it faster.
    It is given good jobs only, and with any other it may end with status 1. */
 
 #include <stdio.h>
@@ -90,7 +90,7 @@ static void life2(void)
     exchange();
 }
 
-/* The stack of both. That two exchanges meet here and undo each other is left as the map says it. */
+/* The stack of both. Two exchanges meet here and undo each other; they are left in, as in the map. */
 
 static void mixed(void)
 {
