@@ -13,7 +13,7 @@ use Rattle.boards.specs.Steps.{LineGiven, lines_left}
 pub line_given : (r : Reader) (l : Line) (s : Reader) → fields_read_of r ≡ 0 → (AtEnd r → ⊥) → GivesLine r l s → LineGiven r (Ok l) s
 line_given r l s begins going gives =
     let first : lines_left r ≡ first_line (rest_of r) ∷ lines_left s = lines_after r l s begins going gives in
-    (gives, record { text = gives.text; rest = gives.rest; lines = sym (ap (drop 1) first); line = gives.line; begins = gives.fields_read }, first)
+    (gives, record { text = ap (λ b. b.now) gives.lent; rest = gives.rest; lines = sym (ap (drop 1) first); line = gives.line; begins = gives.fields_read }, first)
 
 -- what holds for any fields and place of the line holds for those that it has
 pub asked_of_first : {A : Type 0} (f : ℕ → List (List ℕ) → Result A RecordFault) (r : Reader) (l : Line) (s : Reader) (P : Result A RecordFault → Type 0) → fields_read_of r ≡ 0 → LineGiven r (Ok l) s → ((n : ℕ) (fs : List (List ℕ)) → HasFields l fs → StandsFrom l n 1 → P (f n fs)) → P (on_first f (line_of r) (lines_left r))

@@ -29,7 +29,7 @@ module _ (bs : List ℕ) (r : Reader) (l : Line) (s : Reader) (text : text_of r 
 
   pub a_map : (m : NamedMap) → Says l (Ok m) → MapFound bs (Ok (m, position_of s))
   a_map m says =
-      let same : text_of s ≡ bs = gives.text ∙ text in
+      let same : text_of s ≡ bs = ap (λ b. b.now) gives.lent ∙ text in
       let inside : position_of s ≤ length bs = omega (arith, reader_within s, ap length same) in
       let below : drop (position_of s) bs ≡ below_first bs = ap (drop (position_of s)) (sym same) ∙ gives.rest ∙ ap below_first (ap₂ drop position text) in
       (map_said (Ok m) says, inside, below)

@@ -6,8 +6,9 @@ use Rattle.std.specs.List.{position_or_len, before_first}
 use Rattle.text.proofs.Cuts.{Free, free_before}
 use Rattle.text.proofs.LineFields.{field_and_tab, field_and_newline, field_and_end, line_to_newline, line_to_end, end_over_tab}
 use Rattle.text.specs.Fields.{bytes_of, ends_line_of, EndsAt, FirstOf}
+use Rattle.text.specs.FieldsOfLines.{next_at}
 use Rattle.text.specs.Lines.{is_separator, first_line, below_first, line_end, fields}
-use Rattle.text.specs.Readers.{Gives, rest_of, text_of, position_of, line_of, fields_read_of}
+use Rattle.text.specs.Readers.{Gives, rest_of, lent_of, text_of, position_of, line_of, fields_read_of}
 use Rattle.text.specs.declared.field.Field.{Field}
 use Rattle.text.specs.declared.field.Field.TheVariants.{Inner, Last, Unfinished}
 use Rattle.text.specs.declared.reader.Reader.{Reader}
@@ -38,7 +39,7 @@ rest_moved r s n t p = ap (λ x. drop (position_of s) x) t ∙ ap (λ k. drop k 
 
 -- what a reader has left, by what ends the field that it gives
 rest_cut : (r : Reader) (f : Field) (s : Reader) → Gives r f s → (c : ℕ) → slice_get (drop (length (bytes_of f)) (rest_of r)) 0 ≡ Some c → position_of s ≡ position_of r + length (bytes_of f) + 1 → rest_of r ≡ bytes_of f ++ (c ∷ rest_of s)
-rest_cut r f s g c ends moves = cut_at (rest_of r) (bytes_of f) (rest_of s) c g.bytes ends (rest_moved r s (length (bytes_of f) + 1) g.text (omega (arith, moves)))
+rest_cut r f s g c ends moves = cut_at (rest_of r) (bytes_of f) (rest_of s) c g.bytes ends (rest_moved r s (length (bytes_of f) + 1) (ap (λ b. b.now) g.lent) (omega (arith, moves)))
 
 rest_is : (r : Reader) (f : Field) (s : Reader) → Gives r f s → drop (length (bytes_of f)) (rest_of r) ≡ [] → rest_of r ≡ bytes_of f
 rest_is r f s g ends = cut (rest_of r) (bytes_of f) g.bytes ∙ ap (λ x. bytes_of f ++ x) ends ∙ append-nil (bytes_of f)
@@ -49,7 +50,7 @@ first_field r (Inner b p) s g =
 first_field r (Last b p) s g =
     rw (rest_cut r (Last b p) s g 10 g.ends g.moves.0) (field_and_newline b.now (rest_of s) (free_field (rest_of r) b.now g.bytes))
 first_field r (Unfinished b p) s g =
-    let moved : rest_of s ≡ drop (length b.now) (rest_of r) = rest_moved r s (length b.now) g.text g.moves.0 in
+    let moved : rest_of s ≡ drop (length b.now) (rest_of r) = rest_moved r s (length b.now) (ap (λ b. b.now) g.lent) g.moves.0 in
     let line = field_and_end b.now (free_field (rest_of r) b.now g.bytes) in
     rw (rest_is r (Unfinished b p) s g g.ends) (line.0, line.1 ∙ sym (moved ∙ g.ends))
 
@@ -58,17 +59,17 @@ pub record GoesOn (r : Reader) (f : Field) (s : Reader) : Type 0 where
   pub fields : fields (first_line (rest_of r)) ≡ bytes_of f ∷ fields (first_line (rest_of s))
   pub below : below_first (rest_of s) ≡ below_first (rest_of r)
   pub end : line_end (rest_of s) ≡ line_end (rest_of r)
-  pub text : text_of s ≡ text_of r
+  pub lent : lent_of s ≡ lent_of r
   pub line : line_of s ≡ line_of r
   pub fields_read : fields_read_of s ≡ fields_read_of r + 1
-  pub further : position_of r < position_of s
+  pub position : position_of s ≡ next_at f (position_of r)
 
 -- the same, to the next line
 pub record EndsLine (r : Reader) (f : Field) (s : Reader) : Type 0 where
   pub fields : fields (first_line (rest_of r)) ≡ bytes_of f ∷ []
   pub below : rest_of s ≡ below_first (rest_of r)
   pub end : EndsAt f (line_end (rest_of r))
-  pub text : text_of s ≡ text_of r
+  pub lent : lent_of s ≡ lent_of r
   pub line : line_of s ≡ line_of r + 1
   pub fields_read : fields_read_of s ≡ 0
 
@@ -87,11 +88,11 @@ end_here r (Unfinished b p) s g e =
     ap (λ l. drop (length l) (rest_of r)) line ∙ g.ends
 
 pub stays_on_line : (r : Reader) (f : Field) (s : Reader) → Gives r f s → FirstOf f (rest_of r) (rest_of s) → ends_line_of f ≡ false → GoesOn r f s
-stays_on_line r (Inner b p) s g first e = record { fields = first.0; below = sym first.1; end = end_stays r (Inner b p) s g e; text = g.text; line = g.moves.1; fields_read = g.moves.2; further = omega (arith, g.moves.0) }
+stays_on_line r (Inner b p) s g first e = record { fields = first.0; below = sym first.1; end = end_stays r (Inner b p) s g e; lent = g.lent; line = g.moves.1; fields_read = g.moves.2; position = g.moves.0 }
 stays_on_line r (Last b p) s g first e = absurd cc
 stays_on_line r (Unfinished b p) s g first e = absurd cc
 
 pub leaves_line : (r : Reader) (f : Field) (s : Reader) → Gives r f s → FirstOf f (rest_of r) (rest_of s) → ends_line_of f ≡ true → EndsLine r f s
 leaves_line r (Inner b p) s g first e = absurd cc
-leaves_line r (Last b p) s g first e = record { fields = first.0; below = sym first.1; end = end_here r (Last b p) s g e; text = g.text; line = g.moves.1; fields_read = g.moves.2 }
-leaves_line r (Unfinished b p) s g first e = record { fields = first.0; below = sym first.1; end = end_here r (Unfinished b p) s g e; text = g.text; line = g.moves.1; fields_read = g.moves.2 }
+leaves_line r (Last b p) s g first e = record { fields = first.0; below = sym first.1; end = end_here r (Last b p) s g e; lent = g.lent; line = g.moves.1; fields_read = g.moves.2 }
+leaves_line r (Unfinished b p) s g first e = record { fields = first.0; below = sym first.1; end = end_here r (Unfinished b p) s g e; lent = g.lent; line = g.moves.1; fields_read = g.moves.2 }

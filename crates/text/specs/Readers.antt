@@ -1,5 +1,6 @@
 -- A reader of a text, and what it gives.
---     text_of r, position_of r     the text, and how many of its bytes have been read
+--     lent_of r                    the text as it was lent: its bytes, and where they lie in memory
+--     text_of r, position_of r     its bytes, and how many of them have been read
 --     line_of r                    the line of the next field
 --     fields_read_of r             how many fields of that line have been read
 --     rest_of r                    the bytes that have not been read
@@ -8,11 +9,15 @@
 --     Gives r f s                  r gives the field f and becomes s
 use Rattle.std.specs.Prelude.{◌≡◌, ℕ, ◌+◌, List, [], length, drop}
 use Rattle.std.specs.List.{before_first}
+use Rattle.std.specs.Borrow.{Bor}
 use Rattle.text.specs.declared.field.Field.{Field}
 use Rattle.text.specs.declared.field.Field.TheVariants.{Inner, Last, Unfinished}
 use Rattle.text.specs.declared.reader.Reader.{Reader}
-use Rattle.text.specs.Fields.{bytes_of, place_of, EndsAt}
+use Rattle.text.specs.Fields.{bytes_of, place_of, LiesAt, EndsAt}
 use Rattle.text.specs.Lines.{is_separator}
+
+abbrev pub lent_of : Reader → Bor (List ℕ)
+lent_of r = r.text
 
 abbrev pub text_of : Reader → List ℕ
 text_of r = r.text.now
@@ -40,8 +45,9 @@ Moves (Unfinished b p) r s = (position_of s ≡ position_of r + length b.now) ×
 
 pub record Gives (r : Reader) (f : Field) (s : Reader) : Type 0 where
   pub bytes : bytes_of f ≡ before_first is_separator (rest_of r)
+  pub lies : LiesAt f (lent_of r) (position_of r)
   pub ends : EndsAt f (drop (length (bytes_of f)) (rest_of r))
   pub line : (place_of f).line ≡ line_of r
   pub field : (place_of f).field ≡ fields_read_of r + 1
-  pub text : text_of s ≡ text_of r
+  pub lent : lent_of s ≡ lent_of r
   pub moves : Moves f r s

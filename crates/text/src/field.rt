@@ -1,7 +1,7 @@
 //! A field of a line.
 ghost use Rattle.std.specs.Prelude.{◌≡◌, ℕ, ℤ, IfOk, Ok};
 ghost use Rattle.std.specs.Option.{ok_or};
-ghost use Rattle.text.specs.Fields.{bytes_of, place_of, ends_line_of};
+ghost use Rattle.text.specs.Fields.{slice_of, bytes_of, place_of, ends_line_of};
 ghost use Rattle.text.specs.Numbers.{number_of, signed_of, WritesNumber, WritesSigned};
 ghost use Rattle.faults.specs.declared.field.FieldFault.TheVariants.{NotANumber};
 
@@ -23,7 +23,7 @@ pub enum Field<'t> {
 impl<'t> Field<'t> {
     /// The bytes without the separator that ends them.
     pub fn bytes(&self) -> &'t [u8]
-        ensures { result.now ≡ bytes_of self.now }
+        ensures { result ≡ slice_of self.now }
     {
         match *self {
             Field::Inner { bytes, .. }

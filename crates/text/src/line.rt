@@ -31,13 +31,13 @@ impl<'t> Reader<'t> {
     ghost use Rattle.std.specs.Prelude.{◌≡◌, ◌+◌, ◌<◌, ◌↔◌, IfNone, IfSome, IsNone, length};
     ghost use Rattle.text.specs.FieldsOfLines.{GivesLine};
     ghost use Rattle.text.specs.Lines.{first_line, below_first, fields};
-    ghost use Rattle.text.specs.Readers.{AtEnd, text_of, rest_of, line_of, fields_read_of};
+    ghost use Rattle.text.specs.Readers.{AtEnd, lent_of, rest_of, line_of, fields_read_of};
 
     // Skips to the beginning of the next line, from just after a tab.
     #[tactic(auto, using(crate::proofs::FirstFields::stays_on_line, crate::proofs::FirstFields::leaves_line, crate::proofs::LineFields::some_field))]
     fn skip_line(&mut self)
         requires { 0 < fields_read_of self.old }
-        ensures text { text_of self.new ≡ text_of self.old }
+        ensures lent { lent_of self.new ≡ lent_of self.old }
         ensures rest { rest_of self.new ≡ below_first (rest_of self.old) }
         ensures line { line_of self.new ≡ line_of self.old + 1 }
         ensures some { 0 < length (fields (first_line (rest_of self.old))) }

@@ -37,11 +37,11 @@ fn field_len(bytes: &[u8]) -> usize
 impl<'t> Reader<'t> {
     ghost use Rattle.std.specs.Prelude.{IfNone, IfSome, IsNone, ◌↔◌};
     ghost use Rattle.text.specs.Fields.{FirstOf};
-    ghost use Rattle.text.specs.Readers.{text_of, position_of, line_of, fields_read_of, rest_of, AtEnd, Gives};
+    ghost use Rattle.text.specs.Readers.{lent_of, position_of, line_of, fields_read_of, rest_of, AtEnd, Gives};
 
     /// A reader at the beginning of the text, whose lines are numbered from `first_line` on.
     pub fn new(text: &'t [u8], first_line: u32) -> Reader<'t>
-        ensures text { text_of result ≡ text.now }
+        ensures lent { lent_of result ≡ text.entry }
         ensures position { position_of result ≡ 0 }
         ensures line { line_of result ≡ first_line }
         ensures fields { fields_read_of result ≡ 0 }

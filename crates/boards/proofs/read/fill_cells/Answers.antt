@@ -1,4 +1,4 @@
-use Rattle.std.proofs.Common.{◌≡◌, ◌*◌, length, Ok, ◌∙◌}
+use Rattle.std.proofs.Common.{◌≡◌, ◌*◌, length, Ok, ap, ◌∙◌}
 use Rattle.lattice.specs.Starts.{width_of, height_of}
 use Rattle.text.specs.Readers.{line_of}
 use Rattle.boards.proofs.Parts.{rows_left, cells_counted}
@@ -11,7 +11,7 @@ fill_rows-requires-clause-count c =
     let l = c.requires.0 in
     let s = c.in_ok-start.start in
     let t = c.read_start.new.reader in
-    let rows : rows_from (width_of s) (height_of s) (line_of t) (lines_left t) ≡ Ok l.cells = rows_left c.args.first_line c.args.text.now l c.new-reader.result t s c.requires.1 c.new-reader.ensures.text c.new-reader.ensures.position c.new-reader.ensures.line c.in_ok-start.ensures.given c.in_ok-start.ensures.moved in
+    let rows : rows_from (width_of s) (height_of s) (line_of t) (lines_left t) ≡ Ok l.cells = rows_left c.args.first_line c.args.text.now l c.new-reader.result t s c.requires.1 (ap (λ b. b.now) c.new-reader.ensures.lent) c.new-reader.ensures.position c.new-reader.ensures.line c.in_ok-start.ensures.given c.in_ok-start.ensures.moved in
     let count : length l.cells ≡ height_of s * width_of s = cells_counted (width_of s) (height_of s) (line_of t) (lines_left t) l.cells rows in
     rw (c.height.ensures, c.width.ensures) (c.requires.2 ∙ count)
 
@@ -20,5 +20,5 @@ fill_rows-requires-clause-checked c =
     let l = c.requires.0 in
     let s = c.in_ok-start.start in
     let t = c.read_start.new.reader in
-    let rows : rows_from (width_of s) (height_of s) (line_of t) (lines_left t) ≡ Ok l.cells = rows_left c.args.first_line c.args.text.now l c.new-reader.result t s c.requires.1 c.new-reader.ensures.text c.new-reader.ensures.position c.new-reader.ensures.line c.in_ok-start.ensures.given c.in_ok-start.ensures.moved in
+    let rows : rows_from (width_of s) (height_of s) (line_of t) (lines_left t) ≡ Ok l.cells = rows_left c.args.first_line c.args.text.now l c.new-reader.result t s c.requires.1 (ap (λ b. b.now) c.new-reader.ensures.lent) c.new-reader.ensures.position c.new-reader.ensures.line c.in_ok-start.ensures.given c.in_ok-start.ensures.moved in
     (l.cells, rw (c.height.ensures, c.width.ensures) rows)
