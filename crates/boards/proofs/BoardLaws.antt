@@ -16,7 +16,8 @@ use Rattle.text.proofs.LineFields.{no_tab, parted_free}
 use Rattle.text.specs.Lines.{is_newline, lines, ended, parted, fields}
 use Rattle.boards.proofs.BoardLines.{StartRead, start_from_fields, start_written, RowRead, row_from_fields, row_written}
 use Rattle.boards.proofs.HexText.{AreBytes, hex_free}
-use Rattle.boards.specs.Boards.{hex, rows, start_line, row_line, board_text}
+use Rattle.boards.specs.Boards.{hex, rows, start_line, row_line}
+use Rattle.boards.specs.Laws.{first_lines}
 use Rattle.boards.specs.Reading.{on_first, start_at, row_at, rows_from, board_from, empty}
 
 -- a result for the first line comes from its fields
@@ -62,36 +63,38 @@ rows_read_from w (suc h) n ls cs is =
       bytes = bytes_append xs ys row.bytes below.bytes;
     })
 
--- a board that was read
-pub record BoardWas (ls : List (List ℕ)) (l : Lattice) : Type 0 where
-  pub text : flat_map ended ls ≡ board_text l ++ flat_map ended (drop (l.height + 1) ls)
+-- the line of a board that was read, and r rows, with the cells of l
+pub record BoardWas (r : ℕ) (ls : List (List ℕ)) (l : Lattice) : Type 0 where
+  pub text : flat_map ended ls ≡ first_lines l r ++ flat_map ended (drop (r + 1) ls)
   pub accepted : start_refusal l.width l.height l.phase ≡ None
-  pub count : length l.cells ≡ l.height * l.width
+  pub count : length l.cells ≡ r * l.width
   pub bytes : AreBytes l.cells
 
-pub board_read_from : (n : ℕ) (ls : List (List ℕ)) (l : Lattice) → board_from n ls ≡ Ok l → BoardWas ls l
-board_read_from n ls l is =
-    let first = went_on (on_first start_at n ls) (λ s. rows_from s.width s.height (n + 1) (drop 1 ls) >>= λ cs. Ok (with_cells s cs)) l is in
-    let s : Lattice = first.0 in
-    let second = went_on (rows_from s.width s.height (n + 1) (drop 1 ls)) (λ cs. Ok (with_cells s cs)) l first.2 in
-    let cs : List ℕ = second.0 in
-    let line = first_was start_at n ls s first.1 in
+pub lines_read_from : (n r : ℕ) (ls : List (List ℕ)) (s : Lattice) (cs : List ℕ) → on_first start_at n ls ≡ Ok s → rows_from s.width r (n + 1) (drop 1 ls) ≡ Ok cs → BoardWas r ls (with_cells s cs)
+lines_read_from n r ls s cs first second =
+    let line = first_was start_at n ls s first in
     let start : StartRead (fields line.0) s = start_from_fields n (fields line.0) s line.3 in
-    let below : RowsWere s.width s.height (drop 1 ls) cs = rows_read_from s.width s.height (n + 1) (drop 1 ls) cs second.1 in
+    let below : RowsWere s.width r (drop 1 ls) cs = rows_read_from s.width r (n + 1) (drop 1 ls) cs second in
     let rest : drop 1 ls ≡ line.1 = ap (drop 1) line.2 in
     let here : ended line.0 ≡ start_line s.width s.height s.phase = ended_by_fields line.0 (codes "board" ∷ decimal s.width ∷ decimal s.height ∷ decimal s.phase ∷ []) start.written in
-    let same : with_cells s cs ≡ l = cc (second.2) in
-    let one : s.height + 1 ≡ suc s.height = omega arith in
-    let behind : drop s.height (drop 1 ls) ≡ drop (s.height + 1) ls = ap (drop s.height) rest ∙ sym (ap (λ k. drop k ls) one ∙ ap (drop (suc s.height)) line.2) in
-    subst (BoardWas ls) same (record {
+    let one : r + 1 ≡ suc r = omega arith in
+    let behind : drop r (drop 1 ls) ≡ drop (r + 1) ls = ap (drop r) rest ∙ sym (ap (λ k. drop k ls) one ∙ ap (drop (suc r)) line.2) in
+    record {
       text =
           ap (flat_map ended) line.2 ∙ ap (λ x. ended line.0 ++ flat_map ended x) (sym rest) ∙ ap (λ x. x ++ flat_map ended (drop 1 ls)) here ∙ ap (λ x. start_line s.width s.height s.phase ++ x) below.text
-          ∙ sym (append_assoc (start_line s.width s.height s.phase) (flat_map row_line (rows s.width s.height cs)) (flat_map ended (drop s.height (drop 1 ls))))
-          ∙ ap (λ x. board_text (with_cells s cs) ++ flat_map ended x) behind;
+          ∙ sym (append_assoc (start_line s.width s.height s.phase) (flat_map row_line (rows s.width r cs)) (flat_map ended (drop r (drop 1 ls))))
+          ∙ ap (λ x. first_lines (with_cells s cs) r ++ flat_map ended x) behind;
       accepted = start.accepted;
       count = below.count;
       bytes = below.bytes;
-    })
+    }
+
+pub board_read_from : (n : ℕ) (ls : List (List ℕ)) (l : Lattice) → board_from n ls ≡ Ok l → BoardWas l.height ls l
+board_read_from n ls l is =
+    let first = went_on (on_first start_at n ls) (λ s. rows_from s.width s.height (n + 1) (drop 1 ls) >>= λ cs. Ok (with_cells s cs)) l is in
+    let second = went_on (rows_from first.0.width first.0.height (n + 1) (drop 1 ls)) (λ cs. Ok (with_cells first.0 cs)) l first.2 in
+    let same : with_cells first.0 second.0 ≡ l = cc (second.2) in
+    subst (λ (m : Lattice). BoardWas m.height ls m) same (lines_read_from n first.0.height ls first.0 second.0 first.1 second.1)
 
 -- the lines of a board, with no newlines
 abbrev pub row_content : List ℕ → List ℕ
@@ -129,13 +132,15 @@ rows_taken w (suc h) n cs more count bytes =
 fields_of_start : (w h p : ℕ) → w ≤ 999999 → h ≤ 999999 → p ≤ 999999 → fields (start_content w h p) ≡ codes "board" ∷ decimal w ∷ decimal h ∷ decimal p ∷ []
 fields_of_start w h p a b c = fields_of_parted (codes "board") (decimal w ∷ decimal h ∷ decimal p ∷ []) ((refl, (refl, (refl, (refl, (refl, tt))))), (no_tab _ (decimal_free w a), (no_tab _ (decimal_free h b), (no_tab _ (decimal_free p c), tt))))
 
+pub start_taken : (n w h p : ℕ) (more : List (List ℕ)) → w ≤ 999999 → h ≤ 999999 → p ≤ 999999 → start_refusal w h p ≡ None → on_first start_at n (start_content w h p ∷ more) ≡ Ok (empty w h p)
+start_taken n w h p more a b c ok = ap (start_at n) (fields_of_start w h p a b c) ∙ start_written n w h p a b c ok
+
 pub board_taken : (n : ℕ) (l : Lattice) (more : List (List ℕ)) → l.width ≤ 999999 → l.height ≤ 999999 → l.phase ≤ 999999 → start_refusal l.width l.height l.phase ≡ None → length l.cells ≡ l.height * l.width → AreBytes l.cells → board_from n (start_content l.width l.height l.phase ∷ (map row_content (rows l.width l.height l.cells) ++ more)) ≡ Ok l
 board_taken n l more a b c ok count bytes =
-    let first : start_at n (fields (start_content l.width l.height l.phase)) ≡ Ok (empty l.width l.height l.phase) = ap (start_at n) (fields_of_start l.width l.height l.phase a b c) ∙ start_written n l.width l.height l.phase a b c ok in
     let below : rows_from l.width l.height (n + 1) (map row_content (rows l.width l.height l.cells) ++ more) ≡ Ok l.cells = rows_taken l.width l.height (n + 1) l.cells more count bytes in
-    rw (first, below) refl
+    rw (start_taken n l.width l.height l.phase (map row_content (rows l.width l.height l.cells) ++ more) a b c ok, below) refl
 
--- the text of a board is its lines
+-- the first lines of a board are its lines
 start_free : (w h p : ℕ) → w ≤ 999999 → h ≤ 999999 → p ≤ 999999 → Free is_newline (start_content w h p)
 start_free w h p a b c = parted_free (codes "board" ∷ decimal w ∷ decimal h ∷ decimal p ∷ []) ((refl, (refl, (refl, (refl, (refl, tt))))), (decimal_free w a, (decimal_free h b, (decimal_free p c, tt))))
 
@@ -147,8 +152,8 @@ pub rows_joined : (rs : List (List ℕ)) → flat_map row_line rs ≡ flat_map e
 rows_joined [] = refl
 rows_joined (r ∷ rs) = ap (λ x. row_line r ++ x) (rows_joined rs)
 
-pub lines_of_board : (l : Lattice) (more : List ℕ) → l.width ≤ 999999 → l.height ≤ 999999 → l.phase ≤ 999999 → AreBytes l.cells → lines (board_text l ++ more) ≡ start_content l.width l.height l.phase ∷ (map row_content (rows l.width l.height l.cells) ++ lines more)
-lines_of_board l more a b c bytes =
-    let contents : List (List ℕ) = start_content l.width l.height l.phase ∷ map row_content (rows l.width l.height l.cells) in
-    let joined : board_text l ≡ flat_map ended contents = ap (λ x. start_line l.width l.height l.phase ++ x) (rows_joined (rows l.width l.height l.cells)) in
-    ap (λ x. lines (x ++ more)) joined ∙ lines_of_front contents more (start_free l.width l.height l.phase a b c, rows_free l.width l.height l.cells bytes)
+pub lines_of_first : (l : Lattice) (r : ℕ) (more : List ℕ) → l.width ≤ 999999 → l.height ≤ 999999 → l.phase ≤ 999999 → AreBytes l.cells → lines (first_lines l r ++ more) ≡ start_content l.width l.height l.phase ∷ (map row_content (rows l.width r l.cells) ++ lines more)
+lines_of_first l r more a b c bytes =
+    let contents : List (List ℕ) = start_content l.width l.height l.phase ∷ map row_content (rows l.width r l.cells) in
+    let joined : first_lines l r ≡ flat_map ended contents = ap (λ x. start_line l.width l.height l.phase ++ x) (rows_joined (rows l.width r l.cells)) in
+    ap (λ x. lines (x ++ more)) joined ∙ lines_of_front contents more (start_free l.width l.height l.phase a b c, rows_free l.width r l.cells bytes)

@@ -47,12 +47,21 @@ numbers_read n a b c l is =
     let fields : (codes "board" ∷ a ∷ b ∷ c ∷ []) ≡ codes "board" ∷ decimal x.0 ∷ decimal y.0 ∷ decimal z.0 ∷ [] = cc (u.1, v.1, w.1) in
     subst (StartRead (codes "board" ∷ a ∷ b ∷ c ∷ [])) s.1 (record { written = fields; accepted = s.0; no_cells = refl })
 
+-- so many fields one by one
+pub three_args : (args : List (List ℕ)) → length args ≡ 3 → (a : List ℕ) × (b : List ℕ) × (c : List ℕ) × (args ≡ a ∷ b ∷ c ∷ [])
+three_args [] len = absurd (omega arith)
+three_args (a ∷ []) len = absurd (omega arith)
+three_args (a ∷ b ∷ []) len = absurd (omega arith)
+three_args (a ∷ b ∷ c ∷ d ∷ args) len = absurd (omega arith)
+three_args (a ∷ b ∷ c ∷ []) len = (a, b, c, refl)
+
+pub one_arg : (args : List (List ℕ)) → length args ≡ 1 → (a : List ℕ) × (args ≡ a ∷ [])
+one_arg [] len = absurd (omega arith)
+one_arg (a ∷ b ∷ args) len = absurd (omega arith)
+one_arg (a ∷ []) len = (a, refl)
+
 three : (n : ℕ) (args : List (List ℕ)) (l : Lattice) → length args ≡ 3 → numbers_at n (slice_index_or args 0 []) (slice_index_or args 1 []) (slice_index_or args 2 []) ≡ Ok l → StartRead (codes "board" ∷ args) l
-three n [] l len is = absurd (omega arith)
-three n (a ∷ []) l len is = absurd (omega arith)
-three n (a ∷ b ∷ []) l len is = absurd (omega arith)
-three n (a ∷ b ∷ c ∷ d ∷ args) l len is = absurd (omega arith)
-three n (a ∷ b ∷ c ∷ []) l len is = numbers_read n a b c l is
+three n args l len = let t = three_args args len in subst (λ (xs : List (List ℕ)). numbers_at n (slice_index_or xs 0 []) (slice_index_or xs 1 []) (slice_index_or xs 2 []) ≡ Ok l → StartRead (codes "board" ∷ xs) l) (sym t.3) (numbers_read n t.0 t.1 t.2 l)
 
 pub start_from_fields : (n : ℕ) (fs : List (List ℕ)) (l : Lattice) → start_at n fs ≡ Ok l → StartRead fs l
 start_from_fields n fs l is =
@@ -68,15 +77,16 @@ pub record RowRead (w : ℕ) (fs : List (List ℕ)) (cs : List ℕ) : Type 0 whe
   pub count : length cs ≡ w
   pub bytes : AreBytes cs
 
-one : (w n : ℕ) (args : List (List ℕ)) (cs : List ℕ) → length args ≡ 1 → digits_at w n (slice_index_or args 0 []) ≡ Ok cs → RowRead w (codes "row" ∷ args) cs
-one w n [] cs len is = absurd (omega arith)
-one w n (a ∷ b ∷ args) cs len is = absurd (omega arith)
-one w n (a ∷ []) cs len is =
+digits_were : (w n : ℕ) (a cs : List ℕ) → digits_at w n a ≡ Ok cs → RowRead w (codes "row" ∷ a ∷ []) cs
+digits_were w n a cs is =
     let p = passed (eqb (length a) (2 * w) && list_all is_hex a) (Ok (cells_of a)) _ cs is in
     let tests = and_parts (eqb (length a) (2 * w)) (list_all is_hex a) p.0 in
     let r : ReadDigits a w = digits_read w a (eqb-true _ _ tests.0) tests.1 in
     let same : cells_of a ≡ cs = cc (p.1) in
     subst (RowRead w (codes "row" ∷ a ∷ [])) same (record { written = ap (λ x. codes "row" ∷ x ∷ []) r.written; count = r.count; bytes = r.bytes })
+
+one : (w n : ℕ) (args : List (List ℕ)) (cs : List ℕ) → length args ≡ 1 → digits_at w n (slice_index_or args 0 []) ≡ Ok cs → RowRead w (codes "row" ∷ args) cs
+one w n args cs len = let t = one_arg args len in subst (λ (xs : List (List ℕ)). digits_at w n (slice_index_or xs 0 []) ≡ Ok cs → RowRead w (codes "row" ∷ xs) cs) (sym t.1) (digits_were w n t.0 cs)
 
 pub row_from_fields : (w n : ℕ) (fs : List (List ℕ)) (cs : List ℕ) → row_at w n fs ≡ Ok cs → RowRead w fs cs
 row_from_fields w n fs cs is =

@@ -25,7 +25,7 @@ use Rattle.boards.specs.Steps.{LinesDown, lines_left}
 -- what follows a board's text in a finished text, as its reader left it
 pub board_ends : (n : ℕ) (bs : List ℕ) (l : Lattice) (t : Reader) → finished bs ≡ true → board_from n (lines bs) ≡ Ok l → text_of t ≡ bs → lines_left t ≡ drop (l.height + 1) (lines bs) → bs ≡ board_text l ++ drop (position_of t) bs
 board_ends n bs l t ends is text left =
-    let was : BoardWas (lines bs) l = board_read_from n (lines bs) l is in
+    let was : BoardWas l.height (lines bs) l = board_read_from n (lines bs) l is in
     let rest : drop (position_of t) bs ≡ rest_of t = ap (drop (position_of t)) (sym text) in
     let rest-ends : finished (rest_of t) ≡ true = ap finished (sym rest) ∙ finished_drop (position_of t) bs ends in
     let below : rest_of t ≡ flat_map ended (drop (l.height + 1) (lines bs)) = text_is_its_lines (rest_of t) rest-ends ∙ ap (flat_map ended) left in

@@ -1,9 +1,12 @@
+pub mod BoardFaults
 pub mod BoardLaws
 pub mod BoardLengths
 pub mod BoardLines
+pub mod FirstFaults
 pub mod Found
 pub mod Hex
 pub mod HexText
+pub mod LineFaults
 pub mod NextLines
 pub mod Parts
 pub mod Puts
@@ -11,4 +14,5 @@ pub mod ReadBack
 pub mod RoundTrips
 pub mod Rows
 pub mod StartLines
+pub mod StartRefusals
 pub mod WholeBoards

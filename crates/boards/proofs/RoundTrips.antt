@@ -1,63 +1,40 @@
 -- The promise of `read_board`: a written board is read as itself, and a board that was read is within the limits and written as it was.
 -- Assumes nothing.
-use Rattle.std.proofs.Common.{◌≡◌, ℕ, ◌+◌, ◌*◌, ◌≤◌, Bool, true, false, ◌&&◌, cond, leb, List, ◌++◌, length, take, drop, flat_map, None, Some, Ok, Err, Result, IfOk, arith, refl, sym, ◌∙◌, ap, subst}
+use Rattle.std.proofs.Common.{◌≡◌, ℕ, ◌+◌, ◌*◌, ◌≤◌, true, List, ◌++◌, length, take, drop, flat_map, Ok, Err, Result, IfOk, arith, refl, sym, ◌∙◌, ap, subst}
 use Rattle.std.proofs.Math.Nat.{mul_comm}
-use Rattle.std.proofs.lemmas.Bool.{le-leb, leb-true}
-use Rattle.std.proofs.lemmas.Bool.Decides.{nat_tests}
 use Rattle.std.proofs.lemmas.List.{take_at, length-append}
 use Rattle.faults.proofs.Joined.{went_on}
 use Rattle.faults.specs.Results.{◌>>=◌}
 use Rattle.faults.specs.declared.record.RecordFault.{RecordFault}
 use Rattle.lattice.specs.Lattice.{Lattice, Within}
-use Rattle.lattice.specs.Limits.{Side, side_test, max_area, max_phase}
-use Rattle.lattice.specs.Refusals.{start_refusal}
-use Rattle.lattice.specs.declared.refusal.StartRefusal.TheVariants as Cause
 use Rattle.lattice.specs.Starts.{width_of, height_of, held}
 use Rattle.lattice.specs.declared.start.Start.{Start}
 use Rattle.text.proofs.EndedLines.{text_is_its_lines}
 use Rattle.text.proofs.WholeTexts.{whole_accepted, whole_passes}
 use Rattle.text.specs.Lines.{lines, ended}
-use Rattle.text.specs.Wholes.{finished, whole}
-use Rattle.boards.proofs.BoardLaws.{BoardWas, board_read_from, board_taken, lines_of_board}
+use Rattle.text.specs.Wholes.{max_text, finished, whole}
+use Rattle.boards.proofs.BoardLaws.{BoardWas, board_read_from, board_taken, lines_of_first}
 use Rattle.boards.proofs.Found.{FoundBoard, board_there, found_count}
-use Rattle.boards.proofs.HexText.{bytes_one_by_one, bytes_at_once}
+use Rattle.boards.proofs.HexText.{bytes_one_by_one}
+use Rattle.boards.proofs.StartRefusals.{not_refused, within_limits}
 use Rattle.boards.specs.Answers.{BoardFound, BoardRead, BeginsWith}
 use Rattle.boards.specs.Boards.{board_text}
 use Rattle.boards.specs.Reading.{board, board_from}
 
-side_passes : (n : ℕ) → Side n → side_test n ≡ true
-side_passes n s = grind (arith, nat_tests, s.0, s.1, s.2)
-
-side_passed : (n : ℕ) → side_test n ≡ true → Side n
-side_passed n e = (grind (arith, nat_tests), grind (arith, nat_tests), grind (arith, nat_tests))
-
-not_refused : (l : Lattice) → Within l → start_refusal l.width l.height l.phase ≡ None
-not_refused l w = rw (side_passes l.width w.wide, side_passes l.height w.high, le-leb (l.width * l.height) max_area w.area, le-leb l.phase max_phase w.phased) refl
-
-all_passed : (a b c d : Bool) → cond (a && b) (cond c (cond d None (Some Cause.Phase)) (Some Cause.Area)) (Some Cause.Side) ≡ None → (a ≡ true) × (b ≡ true) × (c ≡ true) × (d ≡ true)
-all_passed true true true true is = (refl, refl, refl, refl)
-all_passed true true true false is = absurd cc
-all_passed true true false d is = absurd cc
-all_passed true false c d is = absurd cc
-all_passed false b c d is = absurd cc
-
 -- the text of a board that was read
-board_was : (n : ℕ) (bs : List ℕ) (l : Lattice) → board n bs ≡ Ok l → (finished bs ≡ true) × BoardWas (lines bs) l
+board_was : (n : ℕ) (bs : List ℕ) (l : Lattice) → board n bs ≡ Ok l → (finished bs ≡ true) × BoardWas l.height (lines bs) l
 unfolding board
 board_was n bs l is = let good = went_on (whole n bs) (λ _. board_from n (lines bs)) l is in ((whole_accepted n bs good.1).1, board_read_from n (lines bs) l good.2)
+
+pub board_short : (n : ℕ) (bs : List ℕ) (l : Lattice) → board n bs ≡ Ok l → (length bs ≤ max_text) × (finished bs ≡ true)
+unfolding board
+board_short n bs l is = let good = went_on (whole n bs) (λ _. board_from n (lines bs)) l is in whole_accepted n bs good.1
 
 -- a board that was read is within the limits
 pub board_within : (n : ℕ) (bs : List ℕ) (l : Lattice) → board n bs ≡ Ok l → Within l
 board_within n bs l is =
-    let was : BoardWas (lines bs) l = (board_was n bs l is).1 in
-    let tests = all_passed (side_test l.width) (side_test l.height) (leb (l.width * l.height) max_area) (leb l.phase max_phase) was.accepted in
-    record {
-      wide = side_passed l.width tests.0;
-      high = side_passed l.height tests.1;
-      area = leb-true (l.width * l.height) max_area tests.2;
-      phased = leb-true l.phase max_phase tests.3;
-      bytes = bytes_at_once l.cells was.bytes;
-    }
+    let was : BoardWas l.height (lines bs) l = (board_was n bs l is).1 in
+    within_limits l was.accepted was.bytes
 
 -- reading undoes writing
 pub written_board : (n : ℕ) (bs : List ℕ) (l : Lattice) → BeginsWith l bs → board n bs ≡ Ok l
@@ -68,7 +45,7 @@ written_board n bs l b =
     let high : l.height ≤ 256 = w.high.1 in
     let phased : l.phase ≤ 1 = w.phased in
     let count : length l.cells ≡ l.height * l.width = b.whole ∙ mul_comm l.width l.height in
-    let contents = lines_of_board l b.more (omega (arith, wide)) (omega (arith, high)) (omega (arith, phased)) (bytes_one_by_one l.cells w.bytes) in
+    let contents = lines_of_first l l.height b.more (omega (arith, wide)) (omega (arith, high)) (omega (arith, phased)) (bytes_one_by_one l.cells w.bytes) in
     let read = board_taken n l (lines b.more) (omega (arith, wide)) (omega (arith, high)) (omega (arith, phased)) (not_refused l w) count (bytes_one_by_one l.cells w.bytes) in
     ap (λ a. a >>= λ u. board_from n (lines bs)) (whole_passes n bs b.short b.finished) ∙ ap (λ x. board_from n (lines x)) b.text ∙ ap (board_from n) contents ∙ read
 
@@ -88,7 +65,7 @@ board_inside n bs x found =
     let b = board_begins n bs f.lattice f.is in
     omega (arith, f.end, ap length b.1, length-append (board_text f.lattice) b.0)
 
-board_bytes : (n : ℕ) (bs : List ℕ) (l : Lattice) → board n bs ≡ Ok l → take (length (board_text l)) bs ≡ board_text l
+pub board_bytes : (n : ℕ) (bs : List ℕ) (l : Lattice) → board n bs ≡ Ok l → take (length (board_text l)) bs ≡ board_text l
 board_bytes n bs l is = let b = board_begins n bs l is in ap (take (length (board_text l))) b.1 ∙ take_at (board_text l) b.0 (length (board_text l)) refl
 
 read_at : (n : ℕ) (bs old new : List ℕ) (r : Result (Start × ℕ) RecordFault) (a : Result Lattice RecordFault) → board n bs ≡ a → BoardRead a old new r → IfOk r (λ x. take x.1 bs ≡ board_text (held x.0 (take (width_of x.0 * height_of x.0) new)))

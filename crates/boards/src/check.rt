@@ -1,8 +1,12 @@
 //! The check of a board, before any cell is written.
-ghost use Rattle.std.specs.Prelude.{◌≡◌, ◌≤◌, Ok};
+ghost use Rattle.std.specs.Prelude.{◌≡◌, ◌≤◌, ◌↔◌, ℕ, List, take, Ok, Err, IfOk};
+ghost use Rattle.faults.specs.declared.record.RecordFault.{RecordFault};
 ghost use Rattle.lattice.specs.Lattice.{Lattice};
+ghost use Rattle.lattice.specs.Starts.{held};
 ghost use Rattle.text.specs.Readers.{fields_read_of};
 ghost use Rattle.boards.specs.Answers.{BoardFound, BeginsWith};
+ghost use Rattle.boards.specs.Boards.{board_text};
+ghost use Rattle.boards.specs.Laws.{BoardFault};
 ghost use Rattle.boards.specs.Reading.{board};
 ghost use Rattle.boards.specs.Steps.{RowsChecked, BoardChecked};
 
@@ -47,11 +51,15 @@ fn find_board(text: &[u8], first_line: u32) -> Result<(Start, usize), RecordFaul
 }
 
 /// The start record of the board at the beginning of the text, and the board's length in bytes; or the first fault. More text may follow.
-#[tactic(auto, using(crate::proofs::RoundTrips::written_is_found))]
+#[tactic(auto, using(crate::proofs::RoundTrips::written_is_found, crate::proofs::FirstFaults::found_bytes, crate::proofs::FirstFaults::found_first))]
 pub fn check_board(text: &[u8], first_line: u32) -> Result<(Start, usize), RecordFault>
     ensures answer { BoardFound (board first_line text.now) result }
     // a written board is found
     ensures written { (l : Lattice) → BeginsWith l text.now → BoardFound (Ok l) result }
+    // what is found is a board within the limits, and what is written of it are the bytes that were read
+    ensures bytes { IfOk result (λ x. (cells : List ℕ) × BeginsWith (held x.0 cells) text.now × (take x.1 text.now ≡ board_text (held x.0 cells))) }
+    // a fault is the first one, and the first one is the fault
+    ensures first { (e : RecordFault) → (result ≡ Err e) ↔ BoardFault first_line text.now e }
 {
     find_board(text, first_line)
 }

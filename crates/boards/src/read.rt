@@ -1,10 +1,12 @@
 //! Reading a board into memory.
-ghost use Rattle.std.specs.Prelude.{◌≡◌, ◌+◌, ◌*◌, ◌≤◌, ℕ, List, length, take, Ok, IfOk, IsOkAnd};
+ghost use Rattle.std.specs.Prelude.{◌≡◌, ◌+◌, ◌*◌, ◌≤◌, ◌↔◌, ℕ, List, length, take, Ok, Err, IfOk, IsOkAnd};
+ghost use Rattle.faults.specs.declared.record.RecordFault.{RecordFault};
 ghost use Rattle.lattice.specs.Lattice.{Lattice};
 ghost use Rattle.lattice.specs.Starts.{width_of, height_of, held};
 ghost use Rattle.text.specs.Readers.{line_of, fields_read_of};
 ghost use Rattle.boards.specs.Answers.{BoardRead, BeginsWith};
 ghost use Rattle.boards.specs.Boards.{board_text};
+ghost use Rattle.boards.specs.Laws.{ReadFault};
 ghost use Rattle.boards.specs.Reading.{rows_from, board};
 ghost use Rattle.boards.specs.Steps.{lines_left};
 
@@ -63,7 +65,7 @@ fn read_into(text: &[u8], first_line: u32, cells: &mut [u8]) -> Result<(Start, u
 
 /// Reads the board at the beginning of the text into the memory, and returns its start record and its length in bytes. More text may follow.
 /// A memory with too few cells is reported only if nothing is wrong with the text.
-#[tactic(auto, using(crate::proofs::RoundTrips::written_is_read, crate::proofs::RoundTrips::read_is_written))]
+#[tactic(auto, using(crate::proofs::RoundTrips::written_is_read, crate::proofs::RoundTrips::read_is_written, crate::proofs::FirstFaults::read_first))]
 pub fn read_board(
     text: &[u8],
     first_line: u32,
@@ -74,6 +76,8 @@ pub fn read_board(
     ensures written { (l : Lattice) → BeginsWith l text.now → BoardRead (Ok l) cells.old cells.new result }
     // a board that was read is written as the bytes that it was read from
     ensures bytes { IfOk result (λ x. take x.1 text.now ≡ board_text (held x.0 (take (width_of x.0 * height_of x.0) cells.new))) }
+    // a fault is the first one, and the first one is the fault
+    ensures first { (e : RecordFault) → (result ≡ Err e) ↔ ReadFault first_line (length cells.old) text.now e }
 {
     read_into(text, first_line, cells)
 }
