@@ -2,6 +2,8 @@
 #![tactic(auto)]
 
 #[cfg(test)]
+mod carried;
+#[cfg(test)]
 mod faults_met;
 #[cfg(test)]
 mod jobs_made;
@@ -9,3 +11,5 @@ mod jobs_made;
 mod memory_kept;
 #[cfg(test)]
 mod printed;
+#[cfg(test)]
+mod streams;

@@ -1,2 +1,4 @@
 pub mod LongJobs
+pub mod MappedErrors
+pub mod PartsWritten
 pub mod Printed

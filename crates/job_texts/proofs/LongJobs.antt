@@ -2,7 +2,6 @@
 use Rattle.std.proofs.Common.{◌≡◌, ℕ, ◌+◌, ◌≤◌, ◌<◌, Bool, true, false, List, [], ◌++◌, length, take, leb, Some, None, Option, Err, IfSome, arith, refl, sym, ◌∙◌, ap, ap₂, subst}
 use Rattle.std.proofs.lemmas.Bool.{leb-true, leb-false, lt-leb}
 use Rattle.std.proofs.lemmas.List.{take_all, length-take-le}
-use Rattle.std.specs.Io.KnownBytes.{Appends}
 use Rattle.std.specs.Io.Take.{take_limit, take_inner, take_remaining}
 use Rattle.std.specs.Option.{option_map}
 use Rattle.std.specs.declared.io.traits.Take.{Take}
@@ -25,10 +24,10 @@ cut_at k bs false is =
 pub cut : (bs : List ℕ) → lab_text (take (max_text + 1) bs) ≡ lab_text bs
 cut bs = ap printed_by (cut_at max_area bs (leb (length bs) max_text) refl)
 
--- what is read of a job, and what is written for it
-pub carried : (input : Option (List ℕ)) (v text : List ℕ) (old new : Option (List ℕ)) → IfSome input (λ bs. v ≡ take (max_text + 1) bs) → text ≡ lab_text v → Appends old new text → IfSome input (λ bs. Appends old new (lab_text bs))
-carried None v text old new read made written = tt
-carried (Some bs) v text old new read made written = subst (Appends old new) (made ∙ ap lab_text read ∙ cut bs) written
+-- what holds of the text that is printed for what is read of a job, holds of the text for all of the job
+pub printed_for_all : (P : List ℕ → Type 0) (input : Option (List ℕ)) (v text : List ℕ) → IfSome input (λ bs. v ≡ take (max_text + 1) bs) → text ≡ lab_text v → P text → IfSome input (λ bs. P (lab_text bs))
+printed_for_all P None v text read made holds = tt
+printed_for_all P (Some bs) v text read made holds = subst P (made ∙ ap lab_text read ∙ cut bs) holds
 
 -- what is read, up to a limit, of the bytes that are left
 limited : (left : Option (List ℕ)) (s v : List ℕ) (m n : ℕ) → s ≡ [] → m ≡ n → IfSome (option_map (take m) left) (λ xs. v ≡ s ++ xs) → IfSome left (λ bs. v ≡ take n bs)

@@ -13,17 +13,21 @@ use faults::run::RunFault;
 use jobs::done::Done;
 use jobs::job::run_job;
 use lattice::start::max_cells;
-use std::alloc::{AllocError, Global};
+use std::alloc::{AllocError, Allocator};
 
 // The line that reports a fault.
-fn fault_line(fault: RunFault, heap: Global) -> Result<Vec<u8>, AllocError>
+fn fault_line<A: Allocator>(fault: RunFault, heap: A) -> Result<Vec<u8, A>, AllocError>
     ensures { IfOk result (λ v. v.items ≡ fault_line fault) }
 {
     Ok(format!(in heap; "{}\n", Report::from(fault))?.into_bytes())
 }
 
 // The line of a job whose records were all made, and the board that is held in the end.
-fn made_text(done: &Done, cells: &[u8], heap: Global) -> Result<Vec<u8>, AllocError>
+fn made_text<A: Allocator + Copy>(
+    done: &Done,
+    cells: &[u8],
+    heap: A,
+) -> Result<Vec<u8, A>, AllocError>
     requires { Whole (held done.now.start cells.now) }
     ensures { IfOk result (λ v. v.items ≡ ended (done_text done.now.made done.now.counts) ++ board_text (held done.now.start cells.now)) }
 {
@@ -35,7 +39,11 @@ fn made_text(done: &Done, cells: &[u8], heap: Global) -> Result<Vec<u8>, AllocEr
 
 // What is printed of a job that is run in this memory.
 #[tactic(auto, using(crate::proofs::Printed::cells_inside, crate::proofs::Printed::whole_held, crate::proofs::Printed::text_is))]
-fn text_in(job: &[u8], cells: &mut [u8], heap: Global) -> Result<Vec<u8>, AllocError>
+fn text_in<A: Allocator + Copy>(
+    job: &[u8],
+    cells: &mut [u8],
+    heap: A,
+) -> Result<Vec<u8, A>, AllocError>
     ensures { IfOk result (λ v. v.items ≡ printed_for (length cells.old) job.now) }
 {
     match run_job(job, cells) {
@@ -44,8 +52,8 @@ fn text_in(job: &[u8], cells: &mut [u8], heap: Global) -> Result<Vec<u8>, AllocE
     }
 }
 
-/// All that the program `lab` prints for a job: a line of counts and the board, or the line of the fault. An error means out of memory.
-pub fn lab_text(job: &[u8], heap: Global) -> Result<Vec<u8>, AllocError>
+/// All that the program `lab` prints for this job. The only error is that memory runs out.
+pub fn lab_text<A: Allocator + Copy>(job: &[u8], heap: A) -> Result<Vec<u8, A>, AllocError>
     ensures { IfOk result (λ v. v.items ≡ lab_text job.now) }
 {
     let mut cells = vec![in heap; 0u8; max_cells()]?;

@@ -1,5 +1,7 @@
 //! Reading a job, and what is printed of it.
 #![tactic(auto)]
 
+pub mod carry;
 pub mod lab_text;
 pub mod read_job;
+pub mod write_text;

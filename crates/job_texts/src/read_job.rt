@@ -1,18 +1,22 @@
 //! Reading a job.
-ghost use Rattle.std.specs.Prelude.{◌≡◌, ◌+◌, IfOk, IfSome, take};
+ghost use Rattle.std.specs.Prelude.{◌≡◌, ◌≢◌, ◌+◌, IfOk, IfErr, IfSome, take};
+ghost use Rattle.std.specs.IoError.{error_kind};
 ghost use Rattle.text.specs.Wholes.{max_text};
 
-use std::alloc::Global;
+use std::alloc::Allocator;
 use std::io;
-use std::io::Read;
+use std::io::{ErrorKind, Read};
 
 // One byte more than a job may have, so that a longer text is seen to be too long.
 const MAX_READ: u64 = 65_537;
 
-/// Reads a job to its end. Of a text above the limit it reads one byte too many and no more, so that it is still found to be too long.
-/// An error comes from the input, or means out of memory.
-pub fn read_job<R: Read + Drop>(input: R, heap: Global) -> io::Result<Vec<u8>>
-    ensures { IfOk result (λ v. IfSome (R.remaining input) (λ job. v.items ≡ take (max_text + 1) job)) }
+/// Reads a job to its end, but of a longer text no more than one byte above the limit.
+///
+/// An interrupted read is tried again. An error is the input's, or is that memory runs out; the contract cannot say when
+/// either happens. Nothing but the input is touched.
+pub fn read_job<R: Read + Drop, A: Allocator>(input: R, heap: A) -> io::Result<Vec<u8, A>>
+    ensures job { IfOk result (λ v. IfSome (R.remaining input) (λ job. v.items ≡ take (max_text + 1) job)) }
+    ensures retried { IfErr result (λ e. error_kind e ≢ ErrorKind.Interrupted) }
 {
     let mut job = Vec::new(heap);
     input.take(MAX_READ).read_to_end(&mut job)?;
