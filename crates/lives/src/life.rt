@@ -15,13 +15,13 @@ use layers::reverse::Reverse;
 // Opens a bench over the map, and over the reversed map a second one on a copy of the cells, its mirror. Both are given the events, the mirror with opposite
 // step counts. An event that is no call of a life is passed over. If the bench rests in the end, its reverse script is written as text, read, and run on a
 // third bench, which is opened over the same map on a copy of what is held. It is refused if a memory of one of the three benches is not whole.
-pub fn live<M: Map + Drop>(
-    map: M,
+pub fn live<M: Map>(
+    map: &M,
     start: Start,
     events: &[Event],
     memories: &mut Memories<'_>,
 ) -> Result<Outcome, BenchRefusal>
-    ensures { LifeIs (M.Map.forward map) (M.Map.backward map) start events.now memories.old memories.new result }
+    ensures { LifeIs (M.Map.forward map.now) (M.Map.backward map.now) start events.now memories.old memories.new result }
 {
     if !are_whole(&start, memories) {
         return Err(BenchRefusal::Cells);
@@ -38,14 +38,14 @@ fn are_whole(start: &Start, memories: &Memories<'_>) -> bool
         && start.is_whole(memories.home)
 }
 
-fn live_through<M: Map + Drop>(
-    map: M,
+fn live_through<M: Map>(
+    map: &M,
     start: Start,
     events: &[Event],
     memories: &mut Memories<'_>,
 ) -> Outcome
     requires { AllWhole start memories.old }
-    ensures { Lived (M.Map.forward map) (M.Map.backward map) start events.now memories.old memories.new result }
+    ensures { Lived (M.Map.forward map.now) (M.Map.backward map.now) start events.now memories.old memories.new result }
 {
     let cells = &mut *memories.cells;
     let mirror = &mut *memories.mirror;
@@ -58,7 +58,7 @@ fn live_through<M: Map + Drop>(
     let (mirror_end, mirror_counts) = (image.start(), image.counts());
     let home = &mut *memories.home;
     let script = &mut *memories.script;
-    let way_back = go_back(reversed.inner(), bench, cells, home, script);
+    let way_back = go_back(map, bench, cells, home, script);
     Outcome {
         start: end,
         counts,

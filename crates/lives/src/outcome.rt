@@ -2,6 +2,7 @@
 use bench::bench::Counts;
 use faults::run::RunFault;
 use lattice::start::Start;
+use reverse_script::refusal::ScriptRefusal;
 
 // The way back: the reverse script was written, read and run on a third bench, which was opened on the lattice that was held.
 #[derive(Clone, Copy, PartialEq, Eq, Debug)]
@@ -19,8 +20,8 @@ pub struct Journey {
 pub enum WayBack {
     // The life ends in session.
     InSession,
-    // The memory is too short for the script.
-    MemoryTooShort,
+    /// The script was not written.
+    Refused(ScriptRefusal),
     Gone(Journey),
 }
 
