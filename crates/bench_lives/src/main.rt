@@ -12,9 +12,9 @@ use told::tell;
 
 fn main(rt: HostRuntime) -> anyhow::Result<()> {
     let events = long_life(rt.alloc())?;
-    tell(&rt, "critters", critters(), &events)?;
+    tell(&rt, "critters", &critters(), &events)?;
     println!(rt; "")?;
-    tell(&rt, "mixed", mixed(), &events)?;
+    tell(&rt, "mixed", &mixed(), &events)?;
     println!(rt; "")?;
-    tell(&rt, "critters", critters(), &open_end())
+    tell(&rt, "critters", &critters(), &open_end())
 }

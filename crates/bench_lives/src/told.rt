@@ -9,6 +9,7 @@ use lives::event::{Event, Seen, Told};
 use lives::life::live;
 use lives::memories::Memories;
 use lives::outcome::{Journey, WayBack};
+use reverse_script::refusal::ScriptRefusal;
 use samples::cells::sown;
 use std::io;
 use std::io::Write;
@@ -68,16 +69,16 @@ fn show_way_back(
 ) -> anyhow::Result<()> {
     match way_back {
         WayBack::InSession => println!(rt; "in session")?,
-        WayBack::MemoryTooShort => println!(rt; "no room for the script")?,
+        WayBack::Refused(ScriptRefusal::MemoryTooShort) => println!(rt; "no room for the script")?,
         WayBack::Gone(journey) => show_journey(rt, journey, home, script)?,
     }
     Ok(())
 }
 
-pub(crate) fn tell<M: Map + Drop>(
+pub(crate) fn tell<M: Map>(
     rt: &(impl Print + Alloc),
     name: &str,
-    map: M,
+    map: &M,
     events: &[Event],
 ) -> anyhow::Result<()> {
     let opening = Start::new(WIDTH, HEIGHT, 0).context("the start record is refused")?;

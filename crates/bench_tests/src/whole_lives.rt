@@ -7,6 +7,7 @@ use lives::life::live;
 use lives::memories::Memories;
 use lives::outcome::WayBack;
 use named_maps::blocks::bbm;
+use reverse_script::refusal::ScriptRefusal;
 use scripts::record::Record;
 use std::test::Fail;
 
@@ -65,7 +66,7 @@ fn bench_mirror_and_way_back(rt: HostRuntime) -> Result<(), Fail> {
         script: &mut script,
         seen: &mut [],
     };
-    let outcome = live(bbm(), Start::new(2, 2, 0)?, &events(), &mut memories)?;
+    let outcome = live(&bbm(), Start::new(2, 2, 0)?, &events(), &mut memories)?;
     assert_eq!(rt;
         (outcome.start.phase(), outcome.mirror_start.phase()),
         (1, 1)
@@ -95,7 +96,7 @@ fn each_event_is_told_of(rt: HostRuntime) -> Result<(), Fail> {
         script: &mut [0; 20],
         seen: &mut seen,
     };
-    live(bbm(), Start::new(2, 2, 0)?, &events(), &mut memories)?;
+    live(&bbm(), Start::new(2, 2, 0)?, &events(), &mut memories)?;
     let answers = [
         Answer::Standing(1),
         Answer::PassedOver,
@@ -124,7 +125,7 @@ fn way_back(events: &[Event], script: &mut [u8]) -> Result<WayBack, Fail> {
         script,
         seen: &mut [],
     };
-    Ok(live(bbm(), Start::new(2, 2, 0)?, events, &mut memories)?.way_back)
+    Ok(live(&bbm(), Start::new(2, 2, 0)?, events, &mut memories)?.way_back)
 }
 
 #[test]
@@ -136,7 +137,7 @@ fn a_life_can_end_without_a_way_back(rt: HostRuntime) -> Result<(), Fail> {
     );
     assert_eq!(rt;
         way_back(&[own(Record::Step(1))], &mut script)?,
-        WayBack::MemoryTooShort
+        WayBack::Refused(ScriptRefusal::MemoryTooShort)
     );
     assert!(rt; script == [b'.'; 7]);
     Ok(())
@@ -157,7 +158,7 @@ fn a_life_wants_whole_memories(rt: HostRuntime) -> Result<(), Fail> {
             seen: &mut [],
         };
         let outcome = live(
-            bbm(),
+            &bbm(),
             Start::new(2, 2, 0)?,
             &[own(Record::Step(1))],
             &mut memories,

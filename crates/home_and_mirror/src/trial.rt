@@ -63,7 +63,7 @@ pub(crate) fn try_job(rt: &HostRuntime, job: &[u8]) -> anyhow::Result<()> {
         script: &mut script,
         seen: &mut [],
     };
-    let outcome = live(opening.map, opening.start, &events, &mut memories)?;
+    let outcome = live(&opening.map, opening.start, &events, &mut memories)?;
     show_home(rt, &outcome, (&opening.start, &first), &home)?;
     show_mirror(rt, &outcome, &cells, &mirror)
 }

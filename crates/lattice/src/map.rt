@@ -51,3 +51,28 @@ pub trait Map {
     /// The two functions undo each other, and both keep the sides, the number of cells and the limits.
     ghost laws: { (m : Self) → Reversible (forward m) (backward m) };
 }
+
+/// A borrowed map is a map, too. So a layer can stand over a map that somebody else keeps.
+impl<M: Map> Map for &M {
+    ghost forward = { λ m. M.Map.forward m.now };
+
+    ghost backward = { λ m. M.Map.backward m.now };
+
+    ghost laws = { λ m. M.Map.laws m.now };
+
+    fn advance(&self, start: &mut Start, cells: &mut [u8]) {
+        (**self).advance(start, cells);
+    }
+
+    fn retreat(&self, start: &mut Start, cells: &mut [u8]) {
+        (**self).retreat(start, cells);
+    }
+
+    fn advance_by(&self, count: u32, start: &mut Start, cells: &mut [u8]) {
+        (**self).advance_by(count, start, cells);
+    }
+
+    fn retreat_by(&self, count: u32, start: &mut Start, cells: &mut [u8]) {
+        (**self).retreat_by(count, start, cells);
+    }
+}

@@ -14,13 +14,14 @@ use Rattle.lattice.specs.Lattice.{Lattice}
 use Rattle.lattice.specs.Starts.{width_of, height_of, phase_of, held}
 use Rattle.lattice.specs.declared.start.Start.{Start}
 use Rattle.ledger.specs.Ledgers.{counts}
-use Rattle.lives.specs.Lives.{life_ledger, life_lattice, of_mirror, seen_after}
+use Rattle.lives.specs.Lives.{life_ledger, life_lattice, opposite_clock, of_mirror, seen_after}
 use Rattle.lives.specs.Mirrors.{mirror_event}
 use Rattle.lives.specs.Seen.{Recorded}
-use Rattle.lives.specs.WaysBack.{GoesBack}
+use Rattle.lives.specs.WaysBack.{LeadsHome, GoesBack}
 use Rattle.lives.specs.declared.event.Event.{Event}
 use Rattle.lives.specs.declared.memories.Memories.{Memories}
 use Rattle.lives.specs.declared.outcome.Outcome.{Outcome}
+use Rattle.scripts.specs.declared.state.State.TheVariants.{Rest}
 
 abbrev pub opening : Start → Memories → Lattice
 opening s m = held s m.cells.now
@@ -44,11 +45,15 @@ pub record Lived (f g : Lattice → Lattice) (s : Start) (es : List Event) (old 
   pub mirror : held o.mirror_start new.mirror.now ≡ life_lattice g f (opening s old) (other old) (map mirror_event es)
   pub mirror_counted : o.mirror_counts ≡ counts (life_ledger (opening s old) (other old) (map mirror_event es)) (phase_of o.mirror_start)
   pub same : held o.mirror_start new.mirror.now ≡ held o.start new.cells.now
+  pub opposite : o.mirror_counts ≡ opposite_clock o.counts
   -- after each event, bench and mirror report what their ledgers say, and that is the same except for the sign of the clock
   pub told : Recorded f g (opening s old) (other old) es old.seen.now new.seen.now
   pub alike : (k : ℕ) (e : Event) → (seen_after f g (opening s old) (other old) (take k es) e).mirror ≡ of_mirror (seen_after f g (opening s old) (other old) (take k es) e).bench
   -- the third bench makes every record of the reverse script and is back at the opening lattice then; its clock has the opposite sign
   pub way_back : GoesBack f g (opening s old) (life_ledger (opening s old) (other old) es) old.script.now new.script.now old.home.now new.home.now o.way_back
+  -- both also after each beginning of the events: the mirror holds the same, and from where the bench rests the reverse script leads home
+  pub same_at : (k : ℕ) → life_lattice g f (opening s old) (other old) (map mirror_event (take k es)) ≡ life_lattice f g (opening s old) (other old) (take k es)
+  pub home_at : (k : ℕ) → (life_ledger (opening s old) (other old) (take k es)).state ≡ Rest → LeadsHome f g (opening s old) (life_ledger (opening s old) (other old) (take k es))
   pub second : new.second.now ≡ old.second.now
   pub loans : SameLoans old new
 

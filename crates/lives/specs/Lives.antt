@@ -3,9 +3,10 @@
 --     life_ledger l n es          the ledger after the events
 --     life_lattice f g l n es     the lattice that is held after them
 --     told_after f g l n es e     what the bench reports of one more event, e: the answer to it, and the counts afterwards
+--     opposite_clock c            the counts c with the opposite clock
 --     of_mirror t                 the report t with the opposite clock
 --     seen_after f g l n es e     what bench and mirror report of e: the mirror has had the mirrored events, over the reversed map
-use Rattle.std.specs.Prelude.{ℕ, List, [], ◌∷◌, ◌++◌, map, fold, neg_ℤ}
+use Rattle.std.specs.Prelude.{ℕ, List, [], ◌∷◌, ◌++◌, map, fold, ℤ, neg_ℤ}
 use Rattle.lattice.specs.Lattice.{Lattice}
 use Rattle.ledger.specs.Effects.{standing_for}
 use Rattle.ledger.specs.Ledgers.{Ledger, at_opening, counts}
@@ -27,8 +28,11 @@ told_after f g l n es e = record {
   counts = counts (life_ledger l n (es ++ (e ∷ []))) (life_lattice f g l n (es ++ (e ∷ []))).phase;
 }
 
+abbrev pub opposite_clock : (ℕ × ℕ × ℤ × ℕ) → ℕ × ℕ × ℤ × ℕ
+opposite_clock c = (c.0, c.1, neg_ℤ c.2, c.3)
+
 abbrev pub of_mirror : Told → Told
-of_mirror t = record { answer = t.answer; counts = (t.counts.0, t.counts.1, neg_ℤ t.counts.2, t.counts.3) }
+of_mirror t = record { answer = t.answer; counts = opposite_clock t.counts }
 
 abbrev pub seen_after : (Lattice → Lattice) → (Lattice → Lattice) → Lattice → ℕ → List Event → Event → Seen
 seen_after f g l n es e = record { bench = told_after f g l n es e; mirror = told_after g f l n (map mirror_event es) (mirror_event e) }

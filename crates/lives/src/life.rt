@@ -15,13 +15,13 @@ use layers::reverse::Reverse;
 /// Lives a life: makes the events on a bench over `map`, and on its mirror, a bench over the reverse of `map` that begins with equal cells and gets
 /// every step count negated. Skips events that are no call of the life. Unless a session is left open, a third bench over `map` takes over the cells
 /// that came out, and runs the reverse script. Refused with `Cells`, before anything is done, if `cells`, `mirror` or `home` has the wrong length.
-pub fn live<M: Map + Drop>(
-    map: M,
+pub fn live<M: Map>(
+    map: &M,
     start: Start,
     events: &[Event],
     memories: &mut Memories<'_>,
 ) -> Result<Outcome, BenchRefusal>
-    ensures { LifeIs (M.Map.forward map) (M.Map.backward map) start events.now memories.old memories.new result }
+    ensures { LifeIs (M.Map.forward map.now) (M.Map.backward map.now) start events.now memories.old memories.new result }
 {
     if !are_whole(&start, memories) {
         return Err(BenchRefusal::Cells);
@@ -38,14 +38,14 @@ fn are_whole(start: &Start, memories: &Memories<'_>) -> bool
         && start.is_whole(memories.home)
 }
 
-fn live_through<M: Map + Drop>(
-    map: M,
+fn live_through<M: Map>(
+    map: &M,
     start: Start,
     events: &[Event],
     memories: &mut Memories<'_>,
 ) -> Outcome
     requires { AllWhole start memories.old }
-    ensures { Lived (M.Map.forward map) (M.Map.backward map) start events.now memories.old memories.new result }
+    ensures { Lived (M.Map.forward map.now) (M.Map.backward map.now) start events.now memories.old memories.new result }
 {
     let cells = &mut *memories.cells;
     let mirror = &mut *memories.mirror;
@@ -58,7 +58,7 @@ fn live_through<M: Map + Drop>(
     let (mirror_end, mirror_counts) = (image.start(), image.counts());
     let home = &mut *memories.home;
     let script = &mut *memories.script;
-    let way_back = go_back(reversed.inner(), bench, cells, home, script);
+    let way_back = go_back(map, bench, cells, home, script);
     Outcome {
         start: end,
         counts,

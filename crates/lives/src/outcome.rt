@@ -2,6 +2,7 @@
 use bench::bench::Counts;
 use faults::run::RunFault;
 use lattice::start::Start;
+use reverse_script::refusal::ScriptRefusal;
 
 /// A way back that was made: the reverse script, and what its run on a third bench came to.
 #[derive(Clone, Copy, PartialEq, Eq, Debug)]
@@ -21,9 +22,8 @@ pub struct Journey {
 pub enum WayBack {
     /// A session is open when the life ends.
     InSession,
-    /// The script does not fit in `Memories::script`.
-    MemoryTooShort,
-    /// The script was written and run.
+    /// The script was not written.
+    Refused(ScriptRefusal),
     Gone(Journey),
 }
 

@@ -30,8 +30,9 @@ pub(crate) fn go_back<M: Map>(
     let AnyBench::Rest(bench) = bench else {
         return WayBack::InSession;
     };
-    let Ok(len) = bench.reverse_script(script) else {
-        return WayBack::MemoryTooShort;
+    let len = match bench.reverse_script(script) {
+        Ok(len) => len,
+        Err(cause) => return WayBack::Refused(cause),
     };
     home.copy_from_slice(cells);
     let (third, answer) = run(

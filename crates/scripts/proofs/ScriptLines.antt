@@ -1,10 +1,11 @@
 -- The lines of a script: written records are read as themselves, and accepted lines are written records. Assumes nothing.
-use Rattle.std.proofs.Common.{◌≡◌, ℕ, ◌+◌, List, [], ◌∷◌, ◌++◌, map, flat_map, Ok, Err, Result, refl, ◌∙◌, ap, sym, subst}
-use Rattle.std.specs.List.{AllByRecursion}
+use Rattle.std.proofs.Common.{◌≡◌, ℕ, ◌+◌, List, [], ◌∷◌, ◌++◌, length, map, flat_map, Ok, Err, Result, refl, ◌∙◌, ap, sym, subst}
+use Rattle.std.proofs.lemmas.List.{length-map}
+use Rattle.std.specs.List.{AllByRecursion, count_by}
 use Rattle.faults.proofs.Joined.{went_on}
 use Rattle.faults.specs.declared.record.RecordFault.{RecordFault}
 use Rattle.text.proofs.Cuts.{Free}
-use Rattle.text.proofs.EndedLines.{lines_of_joined, fields_of_parted, ended_by_fields}
+use Rattle.text.proofs.EndedLines.{lines_of_joined, newlines_of_joined, fields_of_parted, ended_by_fields}
 use Rattle.text.proofs.FreeNumbers.{decimal_free, signed_free}
 use Rattle.text.proofs.LineFields.{no_tab, tabless, parted_free}
 use Rattle.text.specs.Lines.{is_newline, is_separator, lines, ended, parted, fields}
@@ -55,6 +56,10 @@ script_of_lines (r ∷ rs) = ap (λ x. written r ++ x) (script_of_lines rs)
 
 pub lines_of_script : (rs : List Record) → AllByRecursion Writable rs → lines (script_of rs) ≡ map content_of rs
 lines_of_script rs w = ap lines (script_of_lines rs) ∙ lines_of_joined (map content_of rs) (lines_are_free rs w)
+
+-- a script has one newline for each record
+pub newlines_of_script : (rs : List Record) → AllByRecursion Writable rs → count_by is_newline (script_of rs) ≡ length rs
+newlines_of_script rs w = ap (count_by is_newline) (script_of_lines rs) ∙ newlines_of_joined (map content_of rs) (lines_are_free rs w) ∙ length-map rs content_of
 
 -- written records are read as themselves
 pub taken_lines : (s : State) (n : ℕ) (rs : List Record) → Leads s rs Rest → AllByRecursion Writable rs → records_from s n (map content_of rs) ≡ Ok rs

@@ -4,8 +4,8 @@ use Rattle.std.proofs.lemmas.Bool.{cases_lt}
 use Rattle.std.proofs.lemmas.Bool.Decides.{nat_tests}
 use Rattle.std.proofs.lemmas.List.{get_or-append_right, get_or_at, get_or-drop, length-drop, length-append, append_assoc, append-nil}
 use Rattle.std.proofs.lemmas.List.Sums.{split_at_first, passes_at_first, fails_before_first}
-use Rattle.std.proofs.lemmas.List.Splits.{join_with_byte-slice_split}
-use Rattle.std.specs.List.{position_or_len, AllByRecursion, slice_split, onto_first}
+use Rattle.std.proofs.lemmas.List.Splits.{join_with_byte-slice_split, length-slice_split}
+use Rattle.std.specs.List.{position_or_len, AllByRecursion, slice_split, onto_first, count_by}
 use Rattle.text.proofs.Cuts.{Free, before_front, after_front, before_yes, after_yes, split_free, split_front}
 use Rattle.text.proofs.LinesLeft.{lines_cons}
 use Rattle.text.specs.Lines.{is_newline, first_line, below_first, lines, lines_of_pieces, ended, is_tab, fields, parted}
@@ -138,6 +138,17 @@ lines_of_front (l ∷ ls) more free =
 
 pub lines_of_joined : (ls : List (List ℕ)) → AllByRecursion (Free is_newline) ls → lines (flat_map ended ls) ≡ ls
 lines_of_joined ls free = ap lines (sym (append-nil (flat_map ended ls))) ∙ lines_of_front ls [] free ∙ append-nil ls
+
+-- each has one newline
+pieces_of_joined : (ls : List (List ℕ)) → AllByRecursion (Free is_newline) ls → length (slice_split is_newline (flat_map ended ls)) ≡ length ls + 1
+pieces_of_joined [] free = refl
+pieces_of_joined (l ∷ ls) free =
+    let first = ap length (split_front is_newline l 10 (flat_map ended ls) free.0 refl) in
+    let rest = pieces_of_joined ls free.1 in
+    ap (λ x. length (slice_split is_newline x)) (append_assoc l (10 ∷ []) (flat_map ended ls)) ∙ omega arith
+
+pub newlines_of_joined : (ls : List (List ℕ)) → AllByRecursion (Free is_newline) ls → count_by is_newline (flat_map ended ls) ≡ length ls
+newlines_of_joined ls free = omega (arith, length-slice_split is_newline (flat_map ended ls), pieces_of_joined ls free)
 
 -- the end of a finished text is finished
 pub finished_drop : (k : ℕ) (bs : List ℕ) → finished bs ≡ true → finished (drop k bs) ≡ true

@@ -3,13 +3,13 @@ use Rattle.std.proofs.lemmas.List.{take_more, length-take-le}
 use Rattle.any_bench.specs.AnyBenches.{any_ledger, any_handed}
 use Rattle.lattice.proofs.Starts.{held_within}
 use Rattle.lattice.specs.Starts.{held}
-use Rattle.layers.specs.Parts.{reversed_of}
 use Rattle.lives.proofs.Along.{Along, along_more, seen_more}
 use Rattle.lives.proofs.Pairs.{life_whole}
 use Rattle.lives.proofs.Recording.{recorded_past, recorded_here}
 use Rattle.lives.proofs.pair.make_events.Goals as goal
 use Rattle.lives.proofs.pair.make_events.Goals.{then-k-seen, else-k-seen}
 use Rattle.lives.specs.Events.{event_told, event_booked, event_made}
+use Rattle.lives.specs.Mirrors.{bench_map}
 use Rattle.lives.specs.Seen.{Recorded}
 use Rattle.lives.specs.declared.event.Event.{Event}
 use Rattle.lives.specs.declared.event.Lent.TheVariants.{Own}
@@ -18,7 +18,7 @@ use Rattle.scripts.specs.declared.record.Record.TheVariants.{Step}
 
 pub make_event-requires : goal.make_event-requires
 make_event-requires g c =
-    let m = reversed_of c.args.map.now in
+    let m = bench_map c.args.map.now in
     let bytes : (k : ℕ) → Fits w8 (get_or c.args.cells.now k 0) = λ k. search rules in
     let inside = held_within c.args.start c.args.cells.now (λ k. (bytes k).fits) in
     let i = c.loop-k.invariant in
@@ -27,7 +27,7 @@ make_event-requires g c =
 
 pub make_event-requires-in-loop-k : goal.make_event-requires-in-loop-k
 make_event-requires-in-loop-k g c =
-    let m = reversed_of c.args.map.now in
+    let m = bench_map c.args.map.now in
     let bytes : (k : ℕ) → Fits w8 (get_or c.args.cells.now k 0) = λ k. search rules in
     let inside = held_within c.args.start c.args.cells.now (λ k. (bytes k).fits) in
     let i = c.loop-k.invariant in
@@ -38,7 +38,7 @@ pub loop-k-preserved : goal.loop-k-preserved
 loop-k-preserved g c =
     let F = g.M.Map.forward in
     let G = g.M.Map.backward in
-    let m = reversed_of c.args.map.now in
+    let m = bench_map c.args.map.now in
     let bytes : (k : ℕ) → Fits w8 (get_or c.args.cells.now k 0) = λ k. search rules in
     let inside = held_within c.args.start c.args.cells.now (λ k. (bytes k).fits) in
     let i = c.loop-k.invariant in
@@ -61,7 +61,7 @@ loop-k-preserved g c =
     let booked = r.ledger ∙ ap (λ z. event_booked h.width h.height z e x) size in
     let made = r.cells ∙ ap₂ (λ a z. event_made (F a) (G a) z e x h) i.0 size in
     let image_booked = t.ledger ∙ ap₂ (λ z a. event_booked p.width p.height z a y) size' c.mirrored.ensures in
-    let image_made = t.cells ∙ ap₂ (λ a z. event_made (G (reversed_of a)) (F (reversed_of a)) z c.mirrored.result y p) i.1 size' ∙ ap (λ a. event_made (G m) (F m) n a y p) c.mirrored.ensures in
+    let image_made = t.cells ∙ ap₂ (λ a z. event_made (G (bench_map a)) (F (bench_map a)) z c.mirrored.result y p) i.1 size' ∙ ap (λ a. event_made (G m) (F m) n a y p) c.mirrored.ensures in
     let next = along_more (F m) (G m) (g.met.M.Map.laws m) l inside n es x h y p i.3 e _ _ _ _ booked made image_booked image_made in
     let P : List Event → Type 0 = λ z. Along (F m) (G m) l n z (any_ledger c.make_event.result.0) (any_handed c.make_event.result.0 c.make_event.new.cells) (any_ledger c.make_event-in-loop-k.result.0) (any_handed c.make_event-in-loop-k.result.0 c.make_event-in-loop-k.new.cells) in
     let told : Seen = record { bench = c.make_event.result.1; mirror = c.make_event-in-loop-k.result.1 } in

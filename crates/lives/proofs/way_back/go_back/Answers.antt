@@ -7,7 +7,7 @@ use Rattle.ledger.proofs.Sound.{Sound}
 use Rattle.ledger.specs.Effects.{standing_for}
 use Rattle.ledger.specs.Homes.{home_script}
 use Rattle.ledger.specs.Ledgers.{at_opening, counts}
-use Rattle.lives.proofs.WaysHome.{home_answer, home_scene, begins, counts_home}
+use Rattle.lives.proofs.WaysHome.{leads_home, comes_alike, begins}
 use Rattle.lives.proofs.way_back.go_back.Goals as goal
 use Rattle.lives.specs.WaysBack.{begun, Home}
 use Rattle.runs.specs.Runs.{run_answer, run_scene}
@@ -42,10 +42,8 @@ returns g c l within whole sound held_is =
     let went : rest_scene third c.run-answer.new.cells ≡ run_scene (F m) (G m) (begun (F m) (G m) l led) 1 hs =
     r.scene ∙ ap (λ x. run_scene (F x) (G x) (rest_scene nb copy) 1 text) n.map ∙ ap₂ (λ x y. run_scene (F m) (G m) x 1 y) first text_is
     in
-    let scene = went ∙ home_scene (F m) (G m) laws l within whole led sound' refl 1 in
+    let leads = leads_home (F m) (G m) laws l within whole led sound' refl in
     let start = ap (λ x. held x c.run-answer.new.cells) c.start-2.ensures in
-    let lattice : handed third c.run-answer.new.cells ≡ l = ap (λ x. x.lattice) scene in
-    let ledger = ap (λ x. x.ledger) scene in
     let is_home : Home (F m) (G m) l led c.args.script.now c.reverse_script.new.memory c.run-answer.new.cells (record { script_len = c.in-Ok.len; answer = c.run-answer.result.1; start = c.start-2.result; counts = c.counts.result }) = record {
       rests = refl;
       len = w.0;
@@ -53,8 +51,6 @@ returns g c l within whole sound held_is =
       script = w.2;
       ran = ran;
       came_to = start ∙ ap (λ x. x.lattice) went;
-      answer = ran ∙ home_answer (F m) (G m) laws l within whole led sound' refl 1;
-      opening = start ∙ lattice;
-      counts = c.counts.ensures.numbers ∙ ap₂ (λ x y. counts x y.phase) ledger lattice ∙ counts_home led.standing l.phase;
+      comes = comes_alike l led _ _ _ _ _ _ ran (start ∙ ap (λ x. x.lattice) went) (c.counts.ensures.numbers ∙ ap (λ x. counts x.ledger x.lattice.phase) went) leads.comes;
     } in
     subst (λ x. Home (F m) (G m) l x c.args.script.now c.reverse_script.new.memory c.run-answer.new.cells (record { script_len = c.in-Ok.len; answer = c.run-answer.result.1; start = c.start-2.result; counts = c.counts.result })) (sym same) is_home
