@@ -1,11 +1,14 @@
 // How an action is kept.
-ghost use Rattle.std.specs.Prelude.{◌≡◌};
+ghost use Rattle.std.specs.Prelude.{◌≡◌, ◌≤◌, unsigned_abs};
+ghost use Rattle.actions.specs.Limits.{max_step};
 ghost use Rattle.journal.specs.Views.{places, entry_ticks};
+
+use actions::step_count::StepCount;
 
 // A step by its count, an edit by how many flips it has; the flips themselves stand elsewhere.
 #[derive(Clone, Copy)]
 pub enum Entry {
-    Step(i32),
+    Step(StepCount),
     Edit(u16),
 }
 
@@ -22,10 +25,11 @@ impl Entry {
 
     // What it adds to the clock.
     pub fn ticks(self) -> i32
-        ensures { result ≡ entry_ticks self }
+        ensures number { result ≡ entry_ticks self }
+        ensures within { unsigned_abs result ≤ max_step }
     {
         match self {
-            Entry::Step(count) => count,
+            Entry::Step(count) => count.get(),
             Entry::Edit(_) => 0,
         }
     }
