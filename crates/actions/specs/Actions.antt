@@ -10,6 +10,7 @@ use Rattle.std.specs.Prelude.{suc, List, map, reverse, fold, ℤ, pos, negsuc, n
 use Rattle.lattice.specs.Lattice.{Lattice}
 use Rattle.lattice.specs.Maps.{repeated}
 use Rattle.actions.specs.Flips.{all_flipped}
+use Rattle.actions.specs.StepCounts.{count_of}
 use Rattle.actions.specs.declared.action.ActionRef.{ActionRef}
 use Rattle.actions.specs.declared.action.ActionRef.TheVariants.{Step as StepRef, Edit as EditRef}
 use Rattle.actions.specs.declared.flip.Flip.{Flip}
@@ -37,5 +38,5 @@ abbrev pub home_of : List Action → List Action
 home_of acts = map reversed (reverse acts)
 
 abbrev pub action_of : ActionRef → Action
-action_of (StepRef z) = Step z
+action_of (StepRef c) = Step (count_of c)
 action_of (EditRef fs) = Edit fs.now

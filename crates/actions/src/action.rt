@@ -1,40 +1,30 @@
 //! Actions: steps and edits, made and taken back.
-ghost use Rattle.std.specs.Prelude.{◌≡◌, neg_ℤ};
+ghost use Rattle.std.specs.Prelude.{◌≡◌};
 ghost use Rattle.lattice.specs.Starts.{held};
 ghost use Rattle.actions.specs.Actions.{moved, made, reversed};
+ghost use Rattle.actions.specs.StepCounts.{count_of};
 
 use crate::flip::{Flip, make_flips, take_back_flips};
+use crate::step_count::StepCount;
 use lattice::map::Map;
 use lattice::start::Start;
 
 /// Moves the lattice by `count` steps: forward if it is positive, back if it is negative.
-pub fn move_by<M: Map>(map: &M, count: i32, start: &mut Start, cells: &mut [u8])
-    ensures { held start.new cells.new ≡ moved (M.forward map.now) (M.backward map.now) count (held start.old cells.old) }
+pub fn move_by<M: Map>(map: &M, count: StepCount, start: &mut Start, cells: &mut [u8])
+    ensures { held start.new cells.new ≡ moved (M.forward map.now) (M.backward map.now) (count_of count) (held start.old cells.old) }
 {
-    if count >= 0 {
-        map.advance_by(count.unsigned_abs(), start, cells);
+    let number = count.get();
+    if number > 0 {
+        map.advance_by(number.unsigned_abs(), start, cells);
     } else {
-        map.retreat_by(count.unsigned_abs(), start, cells);
-    }
-}
-
-/// Moves the lattice by `count` steps the other way. Unlike `move_by` with the count negated, it is also defined for `i32::MIN`.
-pub fn move_back_by<M: Map>(map: &M, count: i32, start: &mut Start, cells: &mut [u8])
-    ensures { held start.new cells.new ≡ moved (M.forward map.now) (M.backward map.now) (neg_ℤ count) (held start.old cells.old) }
-{
-    if count >= 0 {
-        map.retreat_by(count.unsigned_abs(), start, cells);
-    } else {
-        map.advance_by(count.unsigned_abs(), start, cells);
+        map.retreat_by(number.unsigned_abs(), start, cells);
     }
 }
 
 /// An action that borrows its flips from where they are stored.
 #[derive(Clone, Copy)]
 pub enum ActionRef<'a> {
-    /// A step by this count, which is negative for a step back.
-    Step(i32),
-    /// An edit: the flips of a closed session, the first one first.
+    Step(StepCount),
     Edit(&'a [Flip]),
 }
 
@@ -56,7 +46,7 @@ impl ActionRef<'_> {
         ensures { held start.new cells.new ≡ made (M.forward map.now) (M.backward map.now) (reversed (action_of self.entry)) (held start.old cells.old) }
     {
         match self {
-            ActionRef::Step(count) => move_back_by(map, count, start, cells),
+            ActionRef::Step(count) => move_by(map, count.opposite(), start, cells),
             ActionRef::Edit(flips) => take_back_flips(flips, start, cells),
         }
     }

@@ -3,3 +3,4 @@
 
 pub mod action;
 pub mod flip;
+pub mod step_count;

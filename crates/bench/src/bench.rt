@@ -8,6 +8,7 @@ ghost use Rattle.scripts.specs.declared.record.Record.TheVariants.{Step, Undo, R
 
 use crate::session::Session;
 use actions::action::move_by;
+use actions::step_count::StepCount;
 use faults::run::BenchRefusal;
 use journal::journal::Journal;
 use journal::open_journal::OpenJournal;
@@ -76,6 +77,7 @@ impl<'m, M: Map> Bench<'m, M> {
         if !self.start.is_whole(cells) {
             return Err(BenchRefusal::Cells);
         }
+        let count = StepCount::new(count)?;
         self.journal.book_step(count)?;
         move_by(self.map, count, &mut self.start, cells);
         Ok(self.journal.standing())

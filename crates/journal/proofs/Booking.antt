@@ -10,18 +10,13 @@ use Rattle.journal.proofs.Entries.{places_cons, read_all_set, read_all_append, l
 use Rattle.journal.proofs.Standing.{standing_read, count_standing, count_undone}
 use Rattle.journal.specs.Views.{places, all_places, read, read_all, IsEntry}
 use Rattle.journal.specs.declared.entry.Entry.{Entry}
-use Rattle.journal.specs.declared.entry.Entry.TheVariants.{Step as StepEntry, Edit as EditEntry}
 use Rattle.ledger.specs.Ledgers.{entries}
-
-pub has_place : (e : Entry) → IsEntry e → 0 < places e
-has_place (StepEntry z) valid = omega arith
-has_place (EditEntry n) valid = valid.0
 
 at_least : (es : List Entry) → All IsEntry es → length es ≤ all_places es
 at_least [] valid = omega arith
 at_least (e ∷ es) valid =
     let split = places_cons e es in
-    let first = has_place e (All-head IsEntry e es valid) in
+    let first : 0 < places e = All-head IsEntry e es valid in
     let rest = at_least es (All-tail IsEntry e es valid) in
     omega arith
 

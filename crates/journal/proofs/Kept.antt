@@ -16,7 +16,7 @@ use Rattle.journal.specs.declared.journal.Journal.{Journal}
 
 read_kept : (e : Entry) (fs : List Flip) → IsEntry e → places e ≤ length fs → IsKept (read e fs)
 read_kept (StepEntry z) fs valid room = valid
-read_kept (EditEntry n) fs valid room = let len = length-take-le n fs room in let some = valid.0 in omega arith
+read_kept (EditEntry n) fs valid room = let len = length-take-le n fs room in omega arith
 
 all_kept : (es : List Entry) (fs : List Flip) → All IsEntry es → all_places es ≤ length fs → All IsKept (read_all es fs)
 all_kept [] fs valid room = All-nil IsKept

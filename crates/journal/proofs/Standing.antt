@@ -1,14 +1,14 @@
 -- The actions that stand and those that were undone, read from the entries before and after the boundary between them. Assumes nothing.
-use Rattle.std.proofs.Common.{◌≡◌, ℕ, suc, ◌+◌, ◌-◌, ◌<◌, ◌≤◌, List, [], ◌∷◌, ◌++◌, length, take, drop, get_or, sym, ap, ap₂, ◌∙◌, arith, drop-cons, subst, ℤ, unsigned_abs, w32, to_z, of_z}
-use Rattle.std.proofs.lemmas.List.{length-take-le, length-drop, take-take, drop-take, take_more, take-append-drop, get_or-take, drop-append-le, drop-drop, append-nil}
+use Rattle.std.proofs.Common.{◌≡◌, ℕ, suc, ◌+◌, ◌-◌, ◌<◌, ◌≤◌, List, [], ◌∷◌, ◌++◌, length, take, drop, get_or, sym, ap, ap₂, ◌∙◌, arith, drop-cons}
+use Rattle.std.proofs.lemmas.List.{length-take-le, length-drop, take-take, drop-take, take_more, take-append-drop, drop-append-le, drop-drop, append-nil}
 use Rattle.std.proofs.lemmas.List.Sums.{sum_by-append}
-use Rattle.std.proofs.lemmas.Int.{to_z-of_z, fits_signed_from_abs}
-use Rattle.std.specs.List.{All}
 use Rattle.std.proofs.Math.Seq.{drop-append_seam, take-add}
 use Rattle.actions.specs.Actions.{Action, Step, Edit}
+use Rattle.actions.specs.StepCounts.{count_of}
 use Rattle.actions.specs.declared.flip.Flip.{Flip}
+use Rattle.actions.specs.declared.step_count.StepCount.{StepCount}
 use Rattle.journal.proofs.Entries.{length_read_all, read_all_append, take_read_all, drop_read_all}
-use Rattle.journal.specs.Views.{places, all_places, read, read_all, IsEntry}
+use Rattle.journal.specs.Views.{places, all_places, read, read_all}
 use Rattle.journal.specs.declared.entry.Entry.{Entry}
 use Rattle.journal.specs.declared.entry.Entry.TheVariants.{Step as StepEntry, Edit as EditEntry}
 
@@ -78,18 +78,9 @@ module _ (es : List Entry) (fs : List Flip) (s u : ℕ) (inside : s + u ≤ leng
   none_undone none =
       sym (ap (take 1) (undone_read ∙ ap (λ n. read_all (take n (drop s es)) (drop (all_places (take s es)) fs)) none))
 
-pub entry_valid : (es : List Entry) (n k : ℕ) (d : Entry) → k < n → n ≤ length es → All IsEntry (take n es) → IsEntry (get_or es k d)
-entry_valid es n k d k< inside valid =
-    let len = length-take-le n es inside in
-    subst IsEntry (get_or-take n es k d k<) (valid k d (omega arith))
-
--- the count of a step is the number that it is read as
-pub count_read : (e : Entry) (z : ℤ) → IsEntry e → e ≡ StepEntry z → to_z w32 (of_z w32 z) ≡ z
-count_read e z valid is = let small : unsigned_abs z ≤ 10000 = (subst IsEntry is valid).1 in to_z-of_z w32 z (fits_signed_from_abs w32 z (omega arith))
-
 -- reading an entry that is known
-pub read_step : (e : Entry) (z : ℤ) (fs : List Flip) → e ≡ StepEntry z → read e fs ≡ Step z
-read_step e z fs is = ap (λ x. read x fs) is
+pub read_step : (e : Entry) (c : StepCount) (fs : List Flip) → e ≡ StepEntry c → read e fs ≡ Step (count_of c)
+read_step e c fs is = ap (λ x. read x fs) is
 
 pub read_edit : (e : Entry) (n : ℕ) (fs : List Flip) → e ≡ EditEntry n → read e fs ≡ Edit (take n fs)
 read_edit e n fs is = ap (λ x. read x fs) is

@@ -1,7 +1,7 @@
 -- There are as many places in use as entries of what stands. Assumes nothing.
 use Rattle.std.proofs.Common.{◌≡◌, ◌-◌, ◌+◌, ◌<◌, ◌≤◌, [], length, sym, ap, ◌∙◌, arith}
 use Rattle.std.proofs.lemmas.List.{length-drop}
-use Rattle.journal.proofs.Booking.{standing_places, has_place, entries_standing, fewer_than_places}
+use Rattle.journal.proofs.Booking.{standing_places, entries_standing, fewer_than_places}
 use Rattle.journal.proofs.Standing.{count_undone}
 use Rattle.journal.specs.Journals.{standing_of, undone_of, places_of}
 use Rattle.journal.specs.Views.{places, IsEntry}
@@ -21,7 +21,6 @@ pub room_behind : (j : Journal) (e : Entry) → IsEntry e → entries (standing_
 room_behind j e valid room =
     let s = j.sizes in
     let p = j.counted in
-    let some = has_place e valid in
     omega (arith, used_is j, fewer_than_places j.entries j.flips j.standing j.undone (omega arith) j.valid)
 
 pub standing_room : (j : Journal) → entries (standing_of j) ≤ 256

@@ -1,13 +1,14 @@
 //! An action as it is stored.
-ghost use Rattle.std.specs.Prelude.{◌≡◌};
+ghost use Rattle.std.specs.Prelude.{◌≡◌, ◌≤◌, unsigned_abs};
+ghost use Rattle.actions.specs.Limits.{max_step};
 ghost use Rattle.journal.specs.Views.{places, entry_ticks};
+
+use actions::step_count::StepCount;
 
 /// A step or an edit. The flips of an edit are stored apart from it.
 #[derive(Clone, Copy)]
 pub enum Entry {
-    /// A step by this count, which is negative for a step back.
-    Step(i32),
-    /// An edit with so many flips.
+    Step(StepCount),
     Edit(u16),
 }
 
@@ -24,10 +25,11 @@ impl Entry {
 
     /// What the action adds to the clock.
     pub fn ticks(self) -> i32
-        ensures { result ≡ entry_ticks self }
+        ensures number { result ≡ entry_ticks self }
+        ensures within { unsigned_abs result ≤ max_step }
     {
         match self {
-            Entry::Step(count) => count,
+            Entry::Step(count) => count.get(),
             Entry::Edit(_) => 0,
         }
     }

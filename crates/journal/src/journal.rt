@@ -8,17 +8,18 @@ use crate::backwards::Backwards;
 use crate::entry::Entry;
 use actions::action::ActionRef;
 use actions::flip::Flip;
+use actions::step_count::StepCount;
 use faults::run::BenchRefusal;
 
 pub(crate) const MAX_ENTRIES: usize = 256;
-
-const MAX_STEP: u32 = 10_000;
 
 const NO_FLIP: Flip = Flip {
     col: 0,
     row: 0,
     mask: 0,
 };
+
+const NO_ENTRY: Entry = Entry::Edit(0);
 
 /// The actions that stand and those that were undone. It has a fixed size and never allocates.
 #[derive(Drop)]
@@ -39,9 +40,10 @@ impl Journal {
     ghost use Rattle.std.specs.Prelude.{[], unsigned_abs, map, option_to_list, ◌++◌, ◌∷◌, drop, Ok, ◌-◌};
     ghost use Rattle.actions.specs.Actions.{action_of, Step};
     ghost use Rattle.actions.specs.Answers.{unless};
+    ghost use Rattle.actions.specs.StepCounts.{count_of};
     ghost use Rattle.journal.specs.Journals.{standing_of, undone_of, places_of};
     ghost use Rattle.ledger.specs.Ledgers.{entries};
-    ghost use Rattle.ledger.specs.Refusals.{max_clock, step_refusal, if_accepted};
+    ghost use Rattle.ledger.specs.Refusals.{max_clock, if_room, if_accepted};
 
     /// A journal without any action.
     pub fn new() -> Journal
@@ -49,7 +51,7 @@ impl Journal {
         ensures undone { undone_of result ≡ [] }
     {
         Journal {
-            entries: [Entry::Step(1); MAX_ENTRIES],
+            entries: [NO_ENTRY; MAX_ENTRIES],
             flips: [NO_FLIP; MAX_ENTRIES],
             standing: 0,
             undone: 0,
@@ -97,7 +99,8 @@ impl Journal {
         if self.undone == 0 {
             return None;
         }
-        Some(match self.entries[self.standing] {
+        let entry = self.entries[self.standing];
+        Some(match entry {
             Entry::Step(count) => ActionRef::Step(count),
             Entry::Edit(len) => {
                 ActionRef::Edit(&self.flips[self.used..self.used + usize::from(len)])
@@ -140,14 +143,11 @@ impl Journal {
     }
 
     /// Adds a step, and forgets what was undone. Refused with `StepCount`, then with `JournalFull`.
-    pub fn book_step(&mut self, count: i32) -> Result<(), BenchRefusal>
-        ensures answer { result ≡ unless (step_refusal count (entries (standing_of self.old))) tt }
-        ensures standing { standing_of self.new ≡ if_accepted (step_refusal count (entries (standing_of self.old))) (standing_of self.old ++ (Step count ∷ [])) (standing_of self.old) }
-        ensures undone { undone_of self.new ≡ if_accepted (step_refusal count (entries (standing_of self.old))) [] (undone_of self.old) }
+    pub fn book_step(&mut self, count: StepCount) -> Result<(), BenchRefusal>
+        ensures answer { result ≡ unless (if_room (entries (standing_of self.old))) tt }
+        ensures standing { standing_of self.new ≡ if_accepted (if_room (entries (standing_of self.old))) (standing_of self.old ++ (Step (count_of count) ∷ [])) (standing_of self.old) }
+        ensures undone { undone_of self.new ≡ if_accepted (if_room (entries (standing_of self.old))) [] (undone_of self.old) }
     {
-        if count == 0 || count.unsigned_abs() > MAX_STEP {
-            return Err(BenchRefusal::StepCount);
-        }
         if self.used() >= MAX_ENTRIES {
             return Err(BenchRefusal::JournalFull);
         }

@@ -5,10 +5,11 @@ use Rattle.std.proofs.lemmas.Bool.Decides.{nat_tests}
 use Rattle.std.specs.Option.{option_or}
 use Rattle.std.specs.Prelude.{◌==◌, ◌&&◌, not}
 use Rattle.actions.specs.Flips.{flip_refusal}
+use Rattle.actions.specs.Limits.{is_step_count}
 use Rattle.faults.specs.declared.run.BenchRefusal.{BenchRefusal}
 use Rattle.faults.specs.declared.run.BenchRefusal.TheVariants.{Cells}
 use Rattle.ledger.specs.Ledgers.{Ledger}
-use Rattle.ledger.specs.Refusals.{is_step_count, if_room, step_refusal, own_refusal, takes_cells, refusal, if_accepted}
+use Rattle.ledger.specs.Refusals.{if_room, step_refusal, own_refusal, takes_cells, refusal, if_accepted}
 use Rattle.scripts.specs.declared.record.Record.{Record}
 
 -- by cases: there is a refusal, or there is none

@@ -1,8 +1,6 @@
 -- Which calls are refused. The lattice has w columns and h rows, and n cells are passed to a call that needs cells.
 --     max_entries               how many entries a journal has room for
---     max_step                  the largest count of a step, either way
 --     max_clock                 how far from 0 the clock can be, either way
---     is_step_count z           whether z is in the range of step counts
 --     if_room k                 no refusal as long as k, the entries in use, are fewer than max_entries
 --     step_refusal z k          why a step by z is refused while k entries are in use
 --     if_none k e               the refusal e, if k is 0
@@ -12,10 +10,11 @@
 --     if_accepted e x y         x if there is no refusal e, and y if there is
 --     answer w h n c led        the result of the call c: how many actions stand after it, or why it is refused
 --     after w h n c led         the ledger after the call c; a refusal leaves it as it was
-use Rattle.std.specs.Prelude.{ℕ, ◌*◌, ◌==◌, ◌&&◌, Bool, true, false, not, length, ℤ, Option, Some, None, Result, nat_lt, nat_le, unsigned_abs, if◌then◌else◌}
+use Rattle.std.specs.Prelude.{ℕ, ◌*◌, ◌==◌, ◌&&◌, Bool, true, false, not, length, ℤ, Option, Some, None, Result, nat_lt, if◌then◌else◌}
 use Rattle.std.specs.Option.{option_or}
 use Rattle.actions.specs.Answers.{unless}
 use Rattle.actions.specs.Flips.{flip_refusal}
+use Rattle.actions.specs.Limits.{is_step_count}
 use Rattle.faults.specs.declared.run.BenchRefusal.{BenchRefusal}
 use Rattle.faults.specs.declared.run.BenchRefusal.TheVariants.{Cells, StepCount, NothingToUndo, NothingToRedo, JournalFull}
 use Rattle.ledger.specs.Ledgers.{Ledger, used, booked}
@@ -25,14 +24,8 @@ use Rattle.scripts.specs.declared.record.Record.TheVariants.{Step, Undo, Redo, O
 abbrev pub max_entries : ℕ
 max_entries = 256
 
-abbrev pub max_step : ℕ
-max_step = 10000
-
 abbrev pub max_clock : ℕ
 max_clock = 2560000
-
-abbrev pub is_step_count : ℤ → Bool
-is_step_count z = nat_lt 0 (unsigned_abs z) && nat_le (unsigned_abs z) max_step
 
 abbrev pub if_room : ℕ → Option BenchRefusal
 if_room k = if nat_lt k max_entries then None else Some JournalFull

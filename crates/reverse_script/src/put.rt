@@ -1,5 +1,5 @@
 //! Writing records one after another.
-ghost use Rattle.std.specs.Prelude.{◌≡◌, ◌+◌, ◌*◌, ◌≤◌, length, neg_ℤ, reverse, unsigned_abs};
+ghost use Rattle.std.specs.Prelude.{◌≡◌, ◌+◌, ◌*◌, ◌≤◌, length, reverse};
 ghost use Rattle.actions.specs.Actions.{Edit, action_of, reversed};
 ghost use Rattle.text.specs.Puts.{put_at};
 ghost use Rattle.reverse_script.specs.FlipTexts.{back_text};
@@ -72,16 +72,6 @@ fn put_session(flips: &[Flip], script: &mut [u8], at: usize) -> usize
     put(Record::Close, script, flipped)
 }
 
-// The count of the step that takes back a step.
-#[tactic(auto, using(ledger::proofs::Mirrored::abs_neg))]
-fn opposite(count: i32) -> i32
-    requires { unsigned_abs count ≤ 10000 }
-    ensures is { result ≡ neg_ℤ count }
-    ensures small { unsigned_abs result ≤ 10000 }
-{
-    -count
-}
-
 // Writes the records that take an action back, and returns the place after them.
 #[tactic(auto, using(ledger::proofs::WrittenLengths::step_length))]
 pub(crate) fn put_reversed(action: ActionRef<'_>, script: &mut [u8], at: usize) -> usize
@@ -92,7 +82,7 @@ pub(crate) fn put_reversed(action: ActionRef<'_>, script: &mut [u8], at: usize) 
     ensures short { result ≤ at + 28 * size (action_of action.entry) }
 {
     match action {
-        ActionRef::Step(count) => put(Record::Step(opposite(count)), script, at),
+        ActionRef::Step(count) => put(Record::Step(count.opposite().get()), script, at),
         ActionRef::Edit(flips) => put_session(flips, script, at),
     }
 }

@@ -9,6 +9,10 @@ use Rattle.journal.specs.Views.{read}
 pub bounds-self-self : goal.bounds-self-self
 bounds-self-self c = let s = c.args.self.now.sizes in omega (arith, room_behind c.args.self.now c.args.entry c.requires.valid c.requires.room)
 
+-- the entry that is overwritten is one of the array
+pub listed : goal.listed
+listed c = room_behind c.args.self.now c.args.entry c.requires.valid c.requires.room
+
 pub overflow_add-self : goal.overflow_add-self
 overflow_add-self c = record { fits = omega (arith, used_is c.args.self.now, c.requires.room, c.places.ensures) }
 
