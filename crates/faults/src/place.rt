@@ -1,6 +1,7 @@
 // Where a field stands in a text.
 
-// Fields are counted from 1, and lines from the number that the first has: 1, or more where other lines of a job come before the text.
+/// The fields of a line are counted from 1, and lines from the number that the first one has, a `LineNumber`. So a reader gives no place with a 0 in
+/// it; a report has 0 for the field of a whole line, and for the line of a whole text.
 #[derive(Clone, Copy, PartialEq, Eq, Debug)]
 pub struct Place {
     pub line: usize,
