@@ -7,6 +7,7 @@ ghost use Rattle.boards.specs.Reading.{board};
 ghost use Rattle.boards.specs.Steps.{RowsChecked, BoardChecked};
 
 use crate::lines::{read_row, read_start};
+use faults::line_number::LineNumber;
 use faults::record::RecordFault;
 use lattice::start::Start;
 use text::reader::Reader;
@@ -37,7 +38,7 @@ fn check_lines(reader: &mut Reader<'_>) -> Result<Start, RecordFault>
 
 // Looks for the board with which the text begins.
 #[tactic(auto, unfolding(crate::specs::Reading::board))]
-fn find_board(text: &[u8], first_line: u32) -> Result<(Start, usize), RecordFault>
+fn find_board(text: &[u8], first_line: LineNumber) -> Result<(Start, usize), RecordFault>
     ensures { BoardFound (board first_line text.now) result }
 {
     check_whole(text, first_line)?;
@@ -48,7 +49,7 @@ fn find_board(text: &[u8], first_line: u32) -> Result<(Start, usize), RecordFaul
 
 // The start record of the board with which the text begins, and how many bytes the board has; or the first fault.
 #[tactic(auto, using(crate::proofs::RoundTrips::written_is_found))]
-pub fn check_board(text: &[u8], first_line: u32) -> Result<(Start, usize), RecordFault>
+pub fn check_board(text: &[u8], first_line: LineNumber) -> Result<(Start, usize), RecordFault>
     ensures answer { BoardFound (board first_line text.now) result }
     // a board that is written is found
     ensures written { (l : Lattice) → BeginsWith l text.now → BoardFound (Ok l) result }

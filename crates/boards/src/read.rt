@@ -11,6 +11,7 @@ ghost use Rattle.boards.specs.Steps.{lines_left};
 use crate::check::check_board;
 use crate::digits::fill_row;
 use crate::lines::{read_row, read_start};
+use faults::line_number::LineNumber;
 use faults::record::RecordFault;
 use lattice::start::Start;
 use text::reader::Reader;
@@ -38,7 +39,7 @@ fn fill_rows(
 
 // Fills in the cells of a board that was checked.
 #[tactic(auto, unfolding(crate::specs::Reading::board))]
-fn fill_cells(text: &[u8], first_line: u32, cells: &mut [u8]) -> Result<(), RecordFault>
+fn fill_cells(text: &[u8], first_line: LineNumber, cells: &mut [u8]) -> Result<(), RecordFault>
     requires { (l : Lattice) × (board first_line text.now ≡ Ok l) × (length cells.old ≡ length l.cells) }
     ensures { IsOkAnd result (λ _. (l : Lattice) → board first_line text.now ≡ Ok l → cells.new ≡ l.cells) }
 {
@@ -49,7 +50,7 @@ fn fill_cells(text: &[u8], first_line: u32, cells: &mut [u8]) -> Result<(), Reco
 
 // Reads the board with which the text begins.
 #[tactic(auto, using(crate::proofs::Found::read_refused, crate::proofs::Found::read_short, crate::proofs::Found::read_whole, crate::proofs::Found::read_asked))]
-fn read_into(text: &[u8], first_line: u32, cells: &mut [u8]) -> Result<(Start, usize), RecordFault>
+fn read_into(text: &[u8], first_line: LineNumber, cells: &mut [u8]) -> Result<(Start, usize), RecordFault>
     ensures { BoardRead (board first_line text.now) cells.old cells.new result }
 {
     let (start, end) = check_board(text, first_line)?;
@@ -66,7 +67,7 @@ fn read_into(text: &[u8], first_line: u32, cells: &mut [u8]) -> Result<(Start, u
 #[tactic(auto, using(crate::proofs::RoundTrips::written_is_read, crate::proofs::RoundTrips::read_is_written))]
 pub fn read_board(
     text: &[u8],
-    first_line: u32,
+    first_line: LineNumber,
     cells: &mut [u8],
 ) -> Result<(Start, usize), RecordFault>
     ensures answer { BoardRead (board first_line text.now) cells.old cells.new result }
