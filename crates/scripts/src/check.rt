@@ -33,7 +33,7 @@ pub fn check(text: &[u8], first_line: LineNumber) -> Result<usize, RecordFault>
     ensures taken { (rs : List Record) → IsScript rs text.now → (script first_line text.now ≡ Ok rs) × (result ≡ Ok (length rs)) }
     // a fault is the first one
     ensures first { IfErr result (λ e. TextFault first_line text.now e) }
-    // no line before the first has one
+    // no line before the first has a fault
     ensures lines { IfErr result (λ e. NamesLineFrom first_line e) }
 {
     count_records(text, first_line)
