@@ -1,6 +1,7 @@
 pub mod BoardLaws
 pub mod BoardLengths
 pub mod BoardLines
+pub mod FaultLines
 pub mod Found
 pub mod Hex
 pub mod HexText

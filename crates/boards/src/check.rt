@@ -1,5 +1,6 @@
 // The check of a board, before any cell is written.
-ghost use Rattle.std.specs.Prelude.{◌≡◌, ◌≤◌, Ok};
+ghost use Rattle.std.specs.Prelude.{◌≡◌, ◌≤◌, IfErr, Ok};
+ghost use Rattle.faults.specs.Reports.{NamesLineFrom};
 ghost use Rattle.lattice.specs.Lattice.{Lattice};
 ghost use Rattle.text.specs.Readers.{fields_read_of};
 ghost use Rattle.boards.specs.Answers.{BoardFound, BeginsWith};
@@ -48,11 +49,13 @@ fn find_board(text: &[u8], first_line: LineNumber) -> Result<(Start, usize), Rec
 }
 
 // The start record of the board with which the text begins, and how many bytes the board has; or the first fault.
-#[tactic(auto, using(crate::proofs::RoundTrips::written_is_found))]
+#[tactic(auto, using(crate::proofs::RoundTrips::written_is_found, crate::proofs::FaultLines::found_named))]
 pub fn check_board(text: &[u8], first_line: LineNumber) -> Result<(Start, usize), RecordFault>
     ensures answer { BoardFound (board first_line text.now) result }
     // a board that is written is found
     ensures written { (l : Lattice) → BeginsWith l text.now → BoardFound (Ok l) result }
+    // no line before the first has a fault
+    ensures lines { IfErr result (λ e. NamesLineFrom first_line e) }
 {
     find_board(text, first_line)
 }

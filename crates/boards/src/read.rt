@@ -1,5 +1,6 @@
 // Reading a board into memory.
-ghost use Rattle.std.specs.Prelude.{◌≡◌, ◌+◌, ◌*◌, ◌≤◌, ℕ, List, length, take, Ok, IfOk, IsOkAnd};
+ghost use Rattle.std.specs.Prelude.{◌≡◌, ◌+◌, ◌*◌, ◌≤◌, ℕ, List, length, take, Ok, IfErr, IfOk, IsOkAnd};
+ghost use Rattle.faults.specs.Reports.{NamesLineFrom};
 ghost use Rattle.lattice.specs.Lattice.{Lattice};
 ghost use Rattle.lattice.specs.Starts.{width_of, height_of, held};
 ghost use Rattle.text.specs.Readers.{line_of, fields_read_of};
@@ -50,7 +51,11 @@ fn fill_cells(text: &[u8], first_line: LineNumber, cells: &mut [u8]) -> Result<(
 
 // Reads the board with which the text begins.
 #[tactic(auto, using(crate::proofs::Found::read_refused, crate::proofs::Found::read_short, crate::proofs::Found::read_whole, crate::proofs::Found::read_asked))]
-fn read_into(text: &[u8], first_line: LineNumber, cells: &mut [u8]) -> Result<(Start, usize), RecordFault>
+fn read_into(
+    text: &[u8],
+    first_line: LineNumber,
+    cells: &mut [u8],
+) -> Result<(Start, usize), RecordFault>
     ensures { BoardRead (board first_line text.now) cells.old cells.new result }
 {
     let (start, end) = check_board(text, first_line)?;
@@ -64,7 +69,7 @@ fn read_into(text: &[u8], first_line: LineNumber, cells: &mut [u8]) -> Result<(S
 
 // Reads the board with which the text begins into the first cells of the memory, and answers its start record and how many bytes of the
 // text it has. More text may follow.
-#[tactic(auto, using(crate::proofs::RoundTrips::written_is_read, crate::proofs::RoundTrips::read_is_written))]
+#[tactic(auto, using(crate::proofs::RoundTrips::written_is_read, crate::proofs::RoundTrips::read_is_written, crate::proofs::FaultLines::read_named))]
 pub fn read_board(
     text: &[u8],
     first_line: LineNumber,
@@ -75,6 +80,8 @@ pub fn read_board(
     ensures written { (l : Lattice) → BeginsWith l text.now → BoardRead (Ok l) cells.old cells.new result }
     // what is written of a board that was read are the bytes that were read
     ensures bytes { IfOk result (λ x. take x.1 text.now ≡ board_text (held x.0 (take (width_of x.0 * height_of x.0) cells.new))) }
+    // no line before the first has a fault
+    ensures lines { IfErr result (λ e. NamesLineFrom first_line e) }
 {
     read_into(text, first_line, cells)
 }
