@@ -2,7 +2,7 @@ pub mod BoardFaults
 pub mod BoardLaws
 pub mod BoardLengths
 pub mod BoardLines
-pub mod FirstFaults
+pub mod FaultLines
 pub mod Found
 pub mod Hex
 pub mod HexText

@@ -1,6 +1,7 @@
 //! The check of a board, before any cell is written.
 ghost use Rattle.std.specs.Prelude.{◌≡◌, ◌≤◌, ◌↔◌, ℕ, List, take, Ok, Err, IfOk};
-ghost use Rattle.faults.specs.declared.record.RecordFault.{RecordFault};
+ghost use Rattle.std.specs.Prelude.{◌≡◌, ◌≤◌, IfErr, Ok};
+ghost use Rattle.faults.specs.Reports.{NamesLineFrom};
 ghost use Rattle.lattice.specs.Lattice.{Lattice};
 ghost use Rattle.lattice.specs.Starts.{held};
 ghost use Rattle.text.specs.Readers.{fields_read_of};
@@ -11,6 +12,7 @@ ghost use Rattle.boards.specs.Reading.{board};
 ghost use Rattle.boards.specs.Steps.{RowsChecked, BoardChecked};
 
 use crate::lines::{read_row, read_start};
+use faults::line_number::LineNumber;
 use faults::record::RecordFault;
 use lattice::start::Start;
 use text::reader::Reader;
@@ -41,7 +43,7 @@ fn check_lines(reader: &mut Reader<'_>) -> Result<Start, RecordFault>
 
 // Checks the text as a whole, and then the board at its beginning.
 #[tactic(auto, unfolding(crate::specs::Reading::board))]
-fn find_board(text: &[u8], first_line: u32) -> Result<(Start, usize), RecordFault>
+fn find_board(text: &[u8], first_line: LineNumber) -> Result<(Start, usize), RecordFault>
     ensures { BoardFound (board first_line text.now) result }
 {
     check_whole(text, first_line)?;
@@ -51,15 +53,13 @@ fn find_board(text: &[u8], first_line: u32) -> Result<(Start, usize), RecordFaul
 }
 
 /// The start record of the board at the beginning of the text, and the board's length in bytes; or the first fault. More text may follow.
-#[tactic(auto, using(crate::proofs::RoundTrips::written_is_found, crate::proofs::FirstFaults::found_bytes, crate::proofs::FirstFaults::found_first))]
-pub fn check_board(text: &[u8], first_line: u32) -> Result<(Start, usize), RecordFault>
+#[tactic(auto, using(crate::proofs::RoundTrips::written_is_found, crate::proofs::FaultLines::found_named))]
+pub fn check_board(text: &[u8], first_line: LineNumber) -> Result<(Start, usize), RecordFault>
     ensures answer { BoardFound (board first_line text.now) result }
     // a written board is found
     ensures written { (l : Lattice) → BeginsWith l text.now → BoardFound (Ok l) result }
-    // what is found is a board within the limits, and what is written of it are the bytes that were read
-    ensures bytes { IfOk result (λ x. (cells : List ℕ) × BeginsWith (held x.0 cells) text.now × (take x.1 text.now ≡ board_text (held x.0 cells))) }
-    // a fault is the first one, and the first one is the fault
-    ensures first { (e : RecordFault) → (result ≡ Err e) ↔ BoardFault first_line text.now e }
+    // no line before the first has a fault
+    ensures lines { IfErr result (λ e. NamesLineFrom first_line e) }
 {
     find_board(text, first_line)
 }

@@ -1,6 +1,7 @@
 //! Reading a board into memory.
 ghost use Rattle.std.specs.Prelude.{◌≡◌, ◌+◌, ◌*◌, ◌≤◌, ◌↔◌, ℕ, List, length, take, Ok, Err, IfOk, IsOkAnd};
-ghost use Rattle.faults.specs.declared.record.RecordFault.{RecordFault};
+ghost use Rattle.std.specs.Prelude.{◌≡◌, ◌+◌, ◌*◌, ◌≤◌, ℕ, List, length, take, Ok, IfErr, IfOk, IsOkAnd};
+ghost use Rattle.faults.specs.Reports.{NamesLineFrom};
 ghost use Rattle.lattice.specs.Lattice.{Lattice};
 ghost use Rattle.lattice.specs.Starts.{width_of, height_of, held};
 ghost use Rattle.text.specs.Readers.{line_of, fields_read_of};
@@ -13,6 +14,7 @@ ghost use Rattle.boards.specs.Steps.{lines_left};
 use crate::check::check_board;
 use crate::digits::fill_row;
 use crate::lines::{read_row, read_start};
+use faults::line_number::LineNumber;
 use faults::record::RecordFault;
 use lattice::start::Start;
 use text::reader::Reader;
@@ -40,7 +42,7 @@ fn fill_rows(
 
 // Fills in the cells of a board that was checked.
 #[tactic(auto, unfolding(crate::specs::Reading::board))]
-fn fill_cells(text: &[u8], first_line: u32, cells: &mut [u8]) -> Result<(), RecordFault>
+fn fill_cells(text: &[u8], first_line: LineNumber, cells: &mut [u8]) -> Result<(), RecordFault>
     requires { (l : Lattice) × (board first_line text.now ≡ Ok l) × (length cells.old ≡ length l.cells) }
     ensures { IsOkAnd result (λ _. (l : Lattice) → board first_line text.now ≡ Ok l → cells.new ≡ l.cells) }
 {
@@ -51,7 +53,11 @@ fn fill_cells(text: &[u8], first_line: u32, cells: &mut [u8]) -> Result<(), Reco
 
 // Reads the board at the beginning of the text.
 #[tactic(auto, using(crate::proofs::Found::read_refused, crate::proofs::Found::read_short, crate::proofs::Found::read_whole, crate::proofs::Found::read_asked))]
-fn read_into(text: &[u8], first_line: u32, cells: &mut [u8]) -> Result<(Start, usize), RecordFault>
+fn read_into(
+    text: &[u8],
+    first_line: LineNumber,
+    cells: &mut [u8],
+) -> Result<(Start, usize), RecordFault>
     ensures { BoardRead (board first_line text.now) cells.old cells.new result }
 {
     let (start, end) = check_board(text, first_line)?;
@@ -65,10 +71,10 @@ fn read_into(text: &[u8], first_line: u32, cells: &mut [u8]) -> Result<(Start, u
 
 /// Reads the board at the beginning of the text into the memory, and returns its start record and its length in bytes. More text may follow.
 /// A memory with too few cells is reported only if nothing is wrong with the text.
-#[tactic(auto, using(crate::proofs::RoundTrips::written_is_read, crate::proofs::RoundTrips::read_is_written, crate::proofs::FirstFaults::read_first))]
+#[tactic(auto, using(crate::proofs::RoundTrips::written_is_read, crate::proofs::RoundTrips::read_is_written, crate::proofs::FaultLines::read_named))]
 pub fn read_board(
     text: &[u8],
-    first_line: u32,
+    first_line: LineNumber,
     cells: &mut [u8],
 ) -> Result<(Start, usize), RecordFault>
     ensures answer { BoardRead (board first_line text.now) cells.old cells.new result }
@@ -76,8 +82,8 @@ pub fn read_board(
     ensures written { (l : Lattice) → BeginsWith l text.now → BoardRead (Ok l) cells.old cells.new result }
     // a board that was read is written as the bytes that it was read from
     ensures bytes { IfOk result (λ x. take x.1 text.now ≡ board_text (held x.0 (take (width_of x.0 * height_of x.0) cells.new))) }
-    // a fault is the first one, and the first one is the fault
-    ensures first { (e : RecordFault) → (result ≡ Err e) ↔ ReadFault first_line (length cells.old) text.now e }
+    // no line before the first has a fault
+    ensures lines { IfErr result (λ e. NamesLineFrom first_line e) }
 {
     read_into(text, first_line, cells)
 }

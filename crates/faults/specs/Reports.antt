@@ -2,7 +2,8 @@
 --     bench_number e                                   the number of the cause e
 --     reported l n i k                                 layer l, number n, line i, field k
 --     field_report f, record_report f, run_report f    those of the fault f. They stay the same when it becomes a fault of a higher layer
-use Rattle.std.specs.Prelude.{ℕ}
+--     NamesLineFrom n f                            the fault f is of a text as a whole, or of line n or a later one
+use Rattle.std.specs.Prelude.{ℕ, ◌≤◌, ⊤}
 use Rattle.lattice.specs.Refusals.{start_number}
 use Rattle.faults.specs.declared.field.FieldFault.{FieldFault}
 use Rattle.faults.specs.declared.field.FieldFault.TheVariants.{NotANumber, WrongDigits}
@@ -46,3 +47,8 @@ bench_number JournalFull = 17
 abbrev pub run_report : RunFault → Report
 run_report (Record f) = record_report f
 run_report (Bench e i) = reported 3 (bench_number e) i 0
+
+abbrev pub NamesLineFrom : ℕ → RecordFault → Type 0
+NamesLineFrom n TooLong = ⊤
+NamesLineFrom n CellsTooShort = ⊤
+NamesLineFrom n f = n ≤ (record_report f).line

@@ -4,6 +4,7 @@
 #![tactic(auto)]
 
 pub mod field;
+pub mod line_number;
 pub mod place;
 pub mod record;
 pub mod report;

@@ -1,6 +1,7 @@
 //! Where a field stands in a text.
 
-/// A line of a text and a field on it. Fields are numbered from 1, and lines from the number that the caller gives to the first one.
+/// The fields of a line are counted from 1, and lines from the number that the first one has, a `LineNumber`. So a reader gives no place with a 0 in
+/// it; a report has 0 for the field of a whole line, and for the line of a whole text.
 #[derive(Clone, Copy, PartialEq, Eq, Debug)]
 pub struct Place {
     pub line: usize,

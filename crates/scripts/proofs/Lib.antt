@@ -1,4 +1,5 @@
 pub mod Appended
+pub mod FaultLines
 pub mod Judged
 pub mod Lefts
 pub mod ScriptFaults

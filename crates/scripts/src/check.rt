@@ -1,15 +1,17 @@
 //! The check of a whole script.
 ghost use Rattle.std.specs.Prelude.{◌≡◌, List, IfErr, IfOk, Ok, length};
+ghost use Rattle.faults.specs.Reports.{NamesLineFrom};
 ghost use Rattle.scripts.specs.Judgements.{script, count_of};
 ghost use Rattle.scripts.specs.Laws.{IsScript, TextFault};
 ghost use Rattle.scripts.specs.declared.record.Record.{Record};
 
 use crate::records::Records;
+use faults::line_number::LineNumber;
 use faults::record::RecordFault;
 use text::whole::check_whole;
 
 // Reads all records and counts them.
-fn count_records(text: &[u8], first_line: u32) -> Result<usize, RecordFault>
+fn count_records(text: &[u8], first_line: LineNumber) -> Result<usize, RecordFault>
     ensures { result ≡ count_of (script first_line text.now) }
 {
     check_whole(text, first_line)?;
@@ -22,8 +24,8 @@ fn count_records(text: &[u8], first_line: u32) -> Result<usize, RecordFault>
 }
 
 /// How many records the script has, or its first fault. Its first line has the number `first_line`.
-#[tactic(auto, using(crate::proofs::ScriptLaws::accepted_count, crate::proofs::ScriptLaws::taken, crate::proofs::ScriptLaws::fault))]
-pub fn check(text: &[u8], first_line: u32) -> Result<usize, RecordFault>
+#[tactic(auto, using(crate::proofs::ScriptLaws::accepted_count, crate::proofs::ScriptLaws::taken, crate::proofs::ScriptLaws::fault, crate::proofs::FaultLines::fault_named))]
+pub fn check(text: &[u8], first_line: LineNumber) -> Result<usize, RecordFault>
     ensures answer { result ≡ count_of (script first_line text.now) }
     // an accepted text is, byte for byte, what that many records are written as
     ensures accepted { IfOk result (λ count. (rs : List Record) × IsScript rs text.now × (count ≡ length rs)) }
@@ -31,6 +33,8 @@ pub fn check(text: &[u8], first_line: u32) -> Result<usize, RecordFault>
     ensures taken { (rs : List Record) → IsScript rs text.now → (script first_line text.now ≡ Ok rs) × (result ≡ Ok (length rs)) }
     // the fault is the first one
     ensures first { IfErr result (λ e. TextFault first_line text.now e) }
+    // no line before the first has a fault
+    ensures lines { IfErr result (λ e. NamesLineFrom first_line e) }
 {
     count_records(text, first_line)
 }

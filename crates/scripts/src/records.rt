@@ -9,6 +9,7 @@ ghost use Rattle.scripts.specs.Judgements.{read_as, judged};
 use crate::record::Record;
 use crate::state::State;
 use crate::word::Word;
+use faults::line_number::LineNumber;
 use faults::record::RecordFault;
 use text::field::Field;
 use text::line::Line;
@@ -74,7 +75,7 @@ impl<'t> Records<'t> {
 
     /// A reader at the beginning of the text and at rest. The first line has the number `first_line`.
     #[tactic(auto, using(crate::proofs::ScriptLaws::reads_itself))]
-    pub fn new(text: &'t [u8], first_line: u32) -> Records<'t>
+    pub fn new(text: &'t [u8], first_line: LineNumber) -> Records<'t>
         ensures text { text_of (reader_of result) ≡ text.now }
         ensures position { position_of (reader_of result) ≡ 0 }
         ensures line { line_of (reader_of result) ≡ first_line }

@@ -3,6 +3,7 @@ ghost use Rattle.std.specs.Prelude.{◌≡◌};
 ghost use Rattle.scripts.specs.Runs.{run_check};
 
 use crate::check::check;
+use faults::line_number::LineNumber;
 use faults::run::{BenchRefusal, RunFault};
 use lattice::start::Start;
 
@@ -11,7 +12,7 @@ pub fn check_run(
     start: &Start,
     cells: &[u8],
     text: &[u8],
-    first_line: u32,
+    first_line: LineNumber,
 ) -> Result<usize, RunFault>
     ensures { result ≡ run_check start.now cells.now first_line text.now }
 {

@@ -4,6 +4,7 @@ ghost use Rattle.std.specs.List.{position_or_len};
 ghost use Rattle.text.specs.Lines.{is_separator};
 
 use crate::field::Field;
+use faults::line_number::LineNumber;
 use faults::place::Place;
 
 /// A position in a borrowed text, and the line and field that come next there.
@@ -17,7 +18,7 @@ pub struct Reader<'t> {
     // the number of fields of that line that were read
     fields_read: usize,
     ghost within: { position ≤ length text.now },
-    ghost countable: { line + fields_read < position + 2 ^ 32 },
+    ghost countable: { line + fields_read ≤ position + 2 ^ 32 },
 }
 
 // The number of bytes before the first tab or newline, or of all bytes if there is none.
@@ -40,7 +41,7 @@ impl<'t> Reader<'t> {
     ghost use Rattle.text.specs.Readers.{lent_of, position_of, line_of, fields_read_of, rest_of, AtEnd, Gives};
 
     /// A reader at the beginning of the text, whose lines are numbered from `first_line` on.
-    pub fn new(text: &'t [u8], first_line: u32) -> Reader<'t>
+    pub fn new(text: &'t [u8], first_line: LineNumber) -> Reader<'t>
         ensures lent { lent_of result ≡ text.entry }
         ensures position { position_of result ≡ 0 }
         ensures line { line_of result ≡ first_line }
@@ -49,7 +50,7 @@ impl<'t> Reader<'t> {
         Reader {
             text,
             position: 0,
-            line: first_line as usize,
+            line: first_line.number(),
             fields_read: 0,
         }
     }

@@ -4,6 +4,7 @@ ghost use Rattle.std.specs.List.{count_by};
 ghost use Rattle.text.specs.Lines.{is_newline};
 ghost use Rattle.text.specs.Wholes.{whole};
 
+use faults::line_number::LineNumber;
 use faults::record::RecordFault;
 
 const MAX_TEXT: usize = 65_536;
@@ -22,14 +23,14 @@ fn newlines(text: &[u8]) -> usize
 }
 
 /// Checks that a text has at most 65,536 bytes (`TooLong`), and then that it is empty or ends with a newline (`Unfinished`, at its last line).
-pub fn check_whole(text: &[u8], first_line: u32) -> Result<(), RecordFault>
+pub fn check_whole(text: &[u8], first_line: LineNumber) -> Result<(), RecordFault>
     ensures { result ≡ whole first_line text.now }
 {
     if text.len() > MAX_TEXT {
         return Err(RecordFault::TooLong);
     }
     if !text.is_empty() && text[text.len() - 1] != b'\n' {
-        let line = first_line as usize + newlines(text);
+        let line = first_line.number() + newlines(text);
         return Err(RecordFault::Unfinished { line });
     }
     Ok(())
