@@ -24,7 +24,9 @@ pub fn move_by<M: Map>(map: &M, count: StepCount, start: &mut Start, cells: &mut
 /// An action that borrows its flips from where they are stored.
 #[derive(Clone, Copy)]
 pub enum ActionRef<'a> {
+    /// A step by this count, which is negative for a step back.
     Step(StepCount),
+    /// An edit: the flips of a closed session, the first one first.
     Edit(&'a [Flip]),
 }
 

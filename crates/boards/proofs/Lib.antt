@@ -3,6 +3,7 @@ pub mod BoardLaws
 pub mod BoardLengths
 pub mod BoardLines
 pub mod FaultLines
+pub mod FirstFaults
 pub mod Found
 pub mod Hex
 pub mod HexText

@@ -1,7 +1,7 @@
 //! The check of a board, before any cell is written.
-ghost use Rattle.std.specs.Prelude.{◌≡◌, ◌≤◌, ◌↔◌, ℕ, List, take, Ok, Err, IfOk};
-ghost use Rattle.std.specs.Prelude.{◌≡◌, ◌≤◌, IfErr, Ok};
+ghost use Rattle.std.specs.Prelude.{◌≡◌, ◌≤◌, ◌↔◌, ℕ, List, take, Ok, Err, IfErr, IfOk};
 ghost use Rattle.faults.specs.Reports.{NamesLineFrom};
+ghost use Rattle.faults.specs.declared.record.RecordFault.{RecordFault};
 ghost use Rattle.lattice.specs.Lattice.{Lattice};
 ghost use Rattle.lattice.specs.Starts.{held};
 ghost use Rattle.text.specs.Readers.{fields_read_of};
@@ -53,11 +53,15 @@ fn find_board(text: &[u8], first_line: LineNumber) -> Result<(Start, usize), Rec
 }
 
 /// The start record of the board at the beginning of the text, and the board's length in bytes; or the first fault. More text may follow.
-#[tactic(auto, using(crate::proofs::RoundTrips::written_is_found, crate::proofs::FaultLines::found_named))]
+#[tactic(auto, using(crate::proofs::RoundTrips::written_is_found, crate::proofs::FirstFaults::found_bytes, crate::proofs::FirstFaults::found_first, crate::proofs::FaultLines::found_named))]
 pub fn check_board(text: &[u8], first_line: LineNumber) -> Result<(Start, usize), RecordFault>
     ensures answer { BoardFound (board first_line text.now) result }
     // a written board is found
     ensures written { (l : Lattice) → BeginsWith l text.now → BoardFound (Ok l) result }
+    // what is found is a board within the limits, and it is written as the bytes that were read
+    ensures bytes { IfOk result (λ x. (cells : List ℕ) × BeginsWith (held x.0 cells) text.now × (take x.1 text.now ≡ board_text (held x.0 cells))) }
+    // a fault is the first one, and the first one is the fault
+    ensures first { (e : RecordFault) → (result ≡ Err e) ↔ BoardFault first_line text.now e }
     // no line before the first has a fault
     ensures lines { IfErr result (λ e. NamesLineFrom first_line e) }
 {

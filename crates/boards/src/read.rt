@@ -1,7 +1,7 @@
 //! Reading a board into memory.
-ghost use Rattle.std.specs.Prelude.{◌≡◌, ◌+◌, ◌*◌, ◌≤◌, ◌↔◌, ℕ, List, length, take, Ok, Err, IfOk, IsOkAnd};
-ghost use Rattle.std.specs.Prelude.{◌≡◌, ◌+◌, ◌*◌, ◌≤◌, ℕ, List, length, take, Ok, IfErr, IfOk, IsOkAnd};
+ghost use Rattle.std.specs.Prelude.{◌≡◌, ◌+◌, ◌*◌, ◌≤◌, ◌↔◌, ℕ, List, length, take, Ok, Err, IfErr, IfOk, IsOkAnd};
 ghost use Rattle.faults.specs.Reports.{NamesLineFrom};
+ghost use Rattle.faults.specs.declared.record.RecordFault.{RecordFault};
 ghost use Rattle.lattice.specs.Lattice.{Lattice};
 ghost use Rattle.lattice.specs.Starts.{width_of, height_of, held};
 ghost use Rattle.text.specs.Readers.{line_of, fields_read_of};
@@ -71,7 +71,7 @@ fn read_into(
 
 /// Reads the board at the beginning of the text into the memory, and returns its start record and its length in bytes. More text may follow.
 /// A memory with too few cells is reported only if nothing is wrong with the text.
-#[tactic(auto, using(crate::proofs::RoundTrips::written_is_read, crate::proofs::RoundTrips::read_is_written, crate::proofs::FaultLines::read_named))]
+#[tactic(auto, using(crate::proofs::RoundTrips::written_is_read, crate::proofs::RoundTrips::read_is_written, crate::proofs::FirstFaults::read_first, crate::proofs::FaultLines::read_named))]
 pub fn read_board(
     text: &[u8],
     first_line: LineNumber,
@@ -82,6 +82,8 @@ pub fn read_board(
     ensures written { (l : Lattice) → BeginsWith l text.now → BoardRead (Ok l) cells.old cells.new result }
     // a board that was read is written as the bytes that it was read from
     ensures bytes { IfOk result (λ x. take x.1 text.now ≡ board_text (held x.0 (take (width_of x.0 * height_of x.0) cells.new))) }
+    // a fault is the first one, and the first one is the fault
+    ensures first { (e : RecordFault) → (result ≡ Err e) ↔ ReadFault first_line (length cells.old) text.now e }
     // no line before the first has a fault
     ensures lines { IfErr result (λ e. NamesLineFrom first_line e) }
 {

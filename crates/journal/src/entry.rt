@@ -8,7 +8,9 @@ use actions::step_count::StepCount;
 /// A step or an edit. The flips of an edit are stored apart from it.
 #[derive(Clone, Copy)]
 pub enum Entry {
+    /// A step by this count, which is negative for a step back.
     Step(StepCount),
+    /// An edit with so many flips.
     Edit(u16),
 }
 
