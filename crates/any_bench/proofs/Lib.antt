@@ -1,2 +1,2 @@
-pub mod PassedOver
+pub mod Skipped
 pub mod Refused

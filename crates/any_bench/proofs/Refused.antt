@@ -2,8 +2,8 @@
 use Rattle.std.proofs.Common.{◌≡◌, ℕ, Bool, true, false, cond, length, Some, None, Option, refl, ap₂}
 use Rattle.actions.specs.Answers.{unless}
 use Rattle.any_bench.specs.Answers.{said}
-use Rattle.any_bench.specs.Scenes.{Scene, told_at, after_call}
-use Rattle.any_bench.specs.declared.answer.Answer.TheVariants.{PassedOver, Given, Refused}
+use Rattle.any_bench.specs.Scenes.{Scene, answered_at, after_call}
+use Rattle.any_bench.specs.declared.answer.Answer.TheVariants.{Skipped, Given, Refused}
 use Rattle.faults.specs.declared.run.BenchRefusal.{BenchRefusal}
 use Rattle.lattice.specs.Lattice.{Lattice}
 use Rattle.ledger.specs.Effects.{effect}
@@ -15,13 +15,13 @@ use Rattle.scripts.specs.declared.record.Record.{Record}
 
 -- b: the state permits the call; t: it needs cells; d: its refusal
 module _ {A : Type 0} (x y : A) (n : ℕ) (e : BenchRefusal) where
-  here : (b t : Bool) (d : Option BenchRefusal) → cond b (cond t (said (unless d n)) Given) PassedOver ≡ Refused e → cond b (if_accepted d x y) y ≡ y
+  here : (b t : Bool) (d : Option BenchRefusal) → cond b (cond t (said (unless d n)) Given) Skipped ≡ Refused e → cond b (if_accepted d x y) y ≡ y
   here false t d h = refl
   here true false d h = absurd cc
   here true true None h = absurd cc
   here true true (Some c) h = refl
 
-pub refused_leaves : (f g : Lattice → Lattice) (c : Record) (s : Scene) (e : BenchRefusal) → told_at c s ≡ Refused e → after_call f g c s ≡ s
+pub refused_leaves : (f g : Lattice → Lattice) (c : Record) (s : Scene) (e : BenchRefusal) → answered_at c s ≡ Refused e → after_call f g c s ≡ s
 refused_leaves f g c s e h =
     let l = s.lattice in
     let d = refusal l.width l.height (length l.cells) c s.ledger in

@@ -1,11 +1,11 @@
 -- A bench together with its cells, as a value.
 --     Scene                   a ledger, and the lattice that is held
 --     scene_of b cs           those of the bench b with the cells cs
---     told_at c s             the answer to the call c, made with the cells of s
+--     answered_at c s             the answer to the call c, made with the cells of s
 --     after_call f g c s      s after that call, where f and g are the two functions of the map
 --     after_calls f g s cs    s after the calls cs, in their order
 use Rattle.std.specs.Prelude.{ℕ, List, fold}
-use Rattle.any_bench.specs.Answers.{told}
+use Rattle.any_bench.specs.Answers.{answered_if}
 use Rattle.any_bench.specs.AnyBenches.{any_ledger, any_handed}
 use Rattle.any_bench.specs.Calls.{booked_if, made_if}
 use Rattle.any_bench.specs.declared.answer.Answer.{Answer}
@@ -21,8 +21,8 @@ pub record Scene : Type 0 where
 abbrev pub scene_of : {M : Type 0} → AnyBench M → List ℕ → Scene
 scene_of b cs = record { ledger = any_ledger b; lattice = any_handed b cs }
 
-abbrev pub told_at : Record → Scene → Answer
-told_at c s = told s.lattice c s.ledger
+abbrev pub answered_at : Record → Scene → Answer
+answered_at c s = answered_if s.lattice c s.ledger
 
 abbrev pub after_call : (Lattice → Lattice) → (Lattice → Lattice) → Record → Scene → Scene
 after_call f g c s = record { ledger = booked_if s.lattice c s.ledger; lattice = made_if f g c s.ledger s.lattice }

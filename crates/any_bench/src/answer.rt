@@ -5,7 +5,7 @@ use faults::run::BenchRefusal;
 #[derive(Clone, Copy, PartialEq, Eq, Debug)]
 pub enum Answer {
     /// The call was skipped: the state does not permit it, or it is an event that is no call of the life.
-    PassedOver,
+    Skipped,
     /// The call was `open` or `close`, which are never refused and return the bench alone.
     Given,
     /// The call was accepted; so many actions stand now.

@@ -1,6 +1,6 @@
 //! A bench in either state.
 ghost use Rattle.std.specs.Prelude.{◌≡◌, ◌≤◌, unsigned_abs};
-ghost use Rattle.any_bench.specs.Answers.{said, told};
+ghost use Rattle.any_bench.specs.Answers.{said, answered_if};
 ghost use Rattle.any_bench.specs.AnyBenches.{any_map, any_start, any_ledger, any_handed};
 ghost use Rattle.any_bench.specs.Calls.{booked_if, made_if};
 
@@ -69,7 +69,7 @@ impl<'m, M: Map> AnyBench<'m, M> {
 
     /// Makes the call, or skips it where the state does not permit it. `open` and `close` ignore `cells`; the other calls need one byte for each cell.
     pub fn call(self, call: Record, cells: &mut [u8]) -> (AnyBench<'m, M>, Answer)
-        ensures answer { result.1 ≡ told (any_handed self.entry cells.old) call (any_ledger self.entry) }
+        ensures answer { result.1 ≡ answered_if (any_handed self.entry cells.old) call (any_ledger self.entry) }
         ensures ledger { any_ledger result.0 ≡ booked_if (any_handed self.entry cells.old) call (any_ledger self.entry) }
         ensures cells { any_handed result.0 cells.new ≡ made_if (M.forward (any_map self.entry)) (M.backward (any_map self.entry)) call (any_ledger self.entry) (any_handed self.entry cells.old) }
         ensures map { any_map result.0 ≡ any_map self.entry }
@@ -103,7 +103,7 @@ impl<'m, M: Map> AnyBench<'m, M> {
                 AnyBench::Rest(session.close()),
                 Answer::Given,
             ),
-            (bench, _) => (bench, Answer::PassedOver),
+            (bench, _) => (bench, Answer::Skipped),
         }
     }
 }

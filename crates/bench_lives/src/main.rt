@@ -3,18 +3,18 @@
 
 mod events;
 mod shown;
-mod told;
+mod replies;
 
 use events::{long_life, open_end};
 use named_maps::blocks::critters;
 use named_maps::mixed::mixed;
-use told::tell;
+use replies::show_life;
 
 fn main(rt: HostRuntime) -> anyhow::Result<()> {
     let events = long_life(rt.alloc())?;
-    tell(&rt, "critters", &critters(), &events)?;
+    show_life(&rt, "critters", &critters(), &events)?;
     println!(rt; "")?;
-    tell(&rt, "mixed", &mixed(), &events)?;
+    show_life(&rt, "mixed", &mixed(), &events)?;
     println!(rt; "")?;
-    tell(&rt, "critters", &critters(), &open_end())
+    show_life(&rt, "critters", &critters(), &open_end())
 }

@@ -4,7 +4,7 @@ use anyhow::Context;
 use bench::bench::Counts;
 use boards::board_text::board_text;
 use lattice::start::Start;
-use lives::event::{Event, Lent, Seen, Told};
+use lives::event::{Event, Lent, Seen, Reply};
 use scripts::record::Record;
 use scripts::write::write_record;
 use std::io;
@@ -15,7 +15,7 @@ const MAX_RECORD: usize = 38;
 
 fn show_answer(rt: &impl Print, answer: Answer) -> anyhow::Result<()> {
     match answer {
-        Answer::PassedOver => print!(rt; "passed over")?,
+        Answer::Skipped => print!(rt; "passed over")?,
         Answer::Given => print!(rt; "given")?,
         Answer::Standing(count) => print!(rt; "{count} stand")?,
         Answer::Refused(cause) => print!(rt; "refused {}", u8::from(cause))?,
@@ -29,9 +29,9 @@ pub(crate) fn show_counts(rt: &impl Print, counts: Counts) -> anyhow::Result<()>
     Ok(())
 }
 
-fn show_told(rt: &impl Print, told: Told) -> anyhow::Result<()> {
-    show_answer(rt, told.answer)?;
-    show_counts(rt, told.counts)
+fn show_reply(rt: &impl Print, reply: Reply) -> anyhow::Result<()> {
+    show_answer(rt, reply.answer)?;
+    show_counts(rt, reply.counts)
 }
 
 fn show_lent(rt: &impl Print, lent: Lent) -> anyhow::Result<()> {
@@ -51,9 +51,9 @@ fn show_record(rt: &impl Print, record: Record) -> anyhow::Result<()> {
 
 // One line: what bench and mirror report, the memory that the call gets, and the call.
 pub(crate) fn show_event(rt: &impl Print, event: Event, seen: Seen) -> anyhow::Result<()> {
-    show_told(rt, seen.bench)?;
+    show_reply(rt, seen.bench)?;
     print!(rt; "\t")?;
-    show_told(rt, seen.mirror)?;
+    show_reply(rt, seen.mirror)?;
     print!(rt; "\t")?;
     show_lent(rt, event.lent)?;
     print!(rt; "\t")?;

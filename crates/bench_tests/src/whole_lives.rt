@@ -2,7 +2,7 @@
 use any_bench::answer::Answer;
 use faults::run::BenchRefusal;
 use lattice::start::Start;
-use lives::event::{Event, Lent, Seen, Told};
+use lives::event::{Event, Lent, Seen, Reply};
 use lives::life::live;
 use lives::memories::Memories;
 use lives::outcome::WayBack;
@@ -11,8 +11,8 @@ use reverse_script::refusal::ScriptRefusal;
 use scripts::record::Record;
 use std::test::Fail;
 
-const NOTHING: Told = Told {
-    answer: Answer::PassedOver,
+const NOTHING: Reply = Reply {
+    answer: Answer::Skipped,
     counts: (9, 9, 9, 9),
 };
 
@@ -99,15 +99,15 @@ fn each_event_is_told_of(rt: HostRuntime) -> Result<(), Fail> {
     live(&bbm(), Start::new(2, 2, 0)?, &events(), &mut memories)?;
     let answers = [
         Answer::Standing(1),
-        Answer::PassedOver,
+        Answer::Skipped,
         Answer::Refused(BenchRefusal::StepCount),
         Answer::Refused(BenchRefusal::Cells),
-        Answer::PassedOver,
+        Answer::Skipped,
         Answer::Standing(2),
     ];
-    for (told, answer) in seen.iter().zip(answers.iter()) {
-        assert_eq!(rt; told.bench.answer, *answer);
-        assert_eq!(rt; told.mirror.answer, *answer);
+    for (reply, answer) in seen.iter().zip(answers.iter()) {
+        assert_eq!(rt; reply.bench.answer, *answer);
+        assert_eq!(rt; reply.mirror.answer, *answer);
     }
     assert_eq!(rt; seen[5].bench.counts, (2, 0, 3, 1));
     assert_eq!(rt; seen[5].mirror.counts, (2, 0, -3, 1));

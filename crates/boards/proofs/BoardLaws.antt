@@ -10,10 +10,10 @@ use Rattle.faults.specs.declared.record.RecordFault.{RecordFault}
 use Rattle.lattice.specs.Lattice.{Lattice, with_cells}
 use Rattle.lattice.specs.Refusals.{start_refusal}
 use Rattle.text.proofs.Cuts.{Free}
-use Rattle.text.proofs.EndedLines.{ended_by_fields, fields_of_parted, lines_of_front}
+use Rattle.text.proofs.EndedLines.{ended_by_fields, fields_of_separated, lines_of_front}
 use Rattle.text.proofs.FreeNumbers.{decimal_free}
-use Rattle.text.proofs.LineFields.{no_tab, parted_free}
-use Rattle.text.specs.Lines.{is_newline, lines, ended, parted, fields}
+use Rattle.text.proofs.LineFields.{no_tab, separated_free}
+use Rattle.text.specs.Lines.{is_newline, lines, ended, separated, fields}
 use Rattle.boards.proofs.BoardLines.{StartRead, start_from_fields, start_written, RowRead, row_from_fields, row_written}
 use Rattle.boards.proofs.HexText.{AreBytes, hex_free}
 use Rattle.boards.specs.Boards.{hex, rows, start_line, row_line}
@@ -52,13 +52,13 @@ rows_read_from w (suc h) n ls cs is =
     let here : ended line.0 ≡ row_line xs = ended_by_fields line.0 (codes "row" ∷ flat_map hex xs ∷ []) row.written in
     let same : xs ++ ys ≡ cs = cc (second.2) in
     let split : rows w (suc h) (xs ++ ys) ≡ xs ∷ rows w h ys = first_row w h xs ys row.count in
-    let behind : drop h (drop 1 ls) ≡ drop (suc h) ls = ap (drop h) rest ∙ sym (ap (drop (suc h)) line.2) in
+    let after : drop h (drop 1 ls) ≡ drop (suc h) ls = ap (drop h) rest ∙ sym (ap (drop (suc h)) line.2) in
     subst (RowsWere w (suc h) ls) same (record {
       text =
           ap (flat_map ended) line.2 ∙ ap (λ x. ended line.0 ++ flat_map ended x) (sym rest) ∙ ap (λ x. x ++ flat_map ended (drop 1 ls)) here ∙ ap (λ x. row_line xs ++ x) below.text
           ∙ sym (append_assoc (row_line xs) (flat_map row_line (rows w h ys)) (flat_map ended (drop h (drop 1 ls))))
           ∙ ap (λ x. flat_map row_line x ++ flat_map ended (drop h (drop 1 ls))) (sym split)
-          ∙ ap (λ x. flat_map row_line (rows w (suc h) (xs ++ ys)) ++ flat_map ended x) behind;
+          ∙ ap (λ x. flat_map row_line (rows w (suc h) (xs ++ ys)) ++ flat_map ended x) after;
       count = omega (arith, length-append xs ys, row.count, below.count, suc-mul h w);
       bytes = bytes_append xs ys row.bytes below.bytes;
     })
@@ -78,12 +78,12 @@ lines_read_from n r ls s cs first second =
     let rest : drop 1 ls ≡ line.1 = ap (drop 1) line.2 in
     let here : ended line.0 ≡ start_line s.width s.height s.phase = ended_by_fields line.0 (codes "board" ∷ decimal s.width ∷ decimal s.height ∷ decimal s.phase ∷ []) start.written in
     let one : r + 1 ≡ suc r = omega arith in
-    let behind : drop r (drop 1 ls) ≡ drop (r + 1) ls = ap (drop r) rest ∙ sym (ap (λ k. drop k ls) one ∙ ap (drop (suc r)) line.2) in
+    let after : drop r (drop 1 ls) ≡ drop (r + 1) ls = ap (drop r) rest ∙ sym (ap (λ k. drop k ls) one ∙ ap (drop (suc r)) line.2) in
     record {
       text =
           ap (flat_map ended) line.2 ∙ ap (λ x. ended line.0 ++ flat_map ended x) (sym rest) ∙ ap (λ x. x ++ flat_map ended (drop 1 ls)) here ∙ ap (λ x. start_line s.width s.height s.phase ++ x) below.text
           ∙ sym (append_assoc (start_line s.width s.height s.phase) (flat_map row_line (rows s.width r cs)) (flat_map ended (drop r (drop 1 ls))))
-          ∙ ap (λ x. first_lines (with_cells s cs) r ++ flat_map ended x) behind;
+          ∙ ap (λ x. first_lines (with_cells s cs) r ++ flat_map ended x) after;
       accepted = start.accepted;
       count = below.count;
       bytes = below.bytes;
@@ -98,14 +98,14 @@ board_read_from n ls l is =
 
 -- the lines of a board, with no newlines
 abbrev pub row_content : List ℕ → List ℕ
-row_content cs = parted (codes "row" ∷ flat_map hex cs ∷ [])
+row_content cs = separated (codes "row" ∷ flat_map hex cs ∷ [])
 
 abbrev pub start_content : ℕ → ℕ → ℕ → List ℕ
-start_content w h p = parted (codes "board" ∷ decimal w ∷ decimal h ∷ decimal p ∷ [])
+start_content w h p = separated (codes "board" ∷ decimal w ∷ decimal h ∷ decimal p ∷ [])
 
 -- written rows are read back
 fields_of_row : (cs : List ℕ) → AreBytes cs → fields (row_content cs) ≡ codes "row" ∷ flat_map hex cs ∷ []
-fields_of_row cs bytes = fields_of_parted (codes "row") (flat_map hex cs ∷ []) ((refl, (refl, (refl, tt))), (no_tab (flat_map hex cs) (hex_free cs bytes), tt))
+fields_of_row cs bytes = fields_of_separated (codes "row") (flat_map hex cs ∷ []) ((refl, (refl, (refl, tt))), (no_tab (flat_map hex cs) (hex_free cs bytes), tt))
 
 bytes_take : (n : ℕ) (cs : List ℕ) → AreBytes cs → AreBytes (take n cs)
 bytes_take zero cs bytes = tt
@@ -130,7 +130,7 @@ rows_taken w (suc h) n cs more count bytes =
     rw (first, below) (ap Ok (take-append-drop w cs))
 
 fields_of_start : (w h p : ℕ) → w ≤ 999999 → h ≤ 999999 → p ≤ 999999 → fields (start_content w h p) ≡ codes "board" ∷ decimal w ∷ decimal h ∷ decimal p ∷ []
-fields_of_start w h p a b c = fields_of_parted (codes "board") (decimal w ∷ decimal h ∷ decimal p ∷ []) ((refl, (refl, (refl, (refl, (refl, tt))))), (no_tab _ (decimal_free w a), (no_tab _ (decimal_free h b), (no_tab _ (decimal_free p c), tt))))
+fields_of_start w h p a b c = fields_of_separated (codes "board") (decimal w ∷ decimal h ∷ decimal p ∷ []) ((refl, (refl, (refl, (refl, (refl, tt))))), (no_tab _ (decimal_free w a), (no_tab _ (decimal_free h b), (no_tab _ (decimal_free p c), tt))))
 
 pub start_taken : (n w h p : ℕ) (more : List (List ℕ)) → w ≤ 999999 → h ≤ 999999 → p ≤ 999999 → start_refusal w h p ≡ None → on_first start_at n (start_content w h p ∷ more) ≡ Ok (empty w h p)
 start_taken n w h p more a b c ok = ap (start_at n) (fields_of_start w h p a b c) ∙ start_written n w h p a b c ok
@@ -142,11 +142,11 @@ board_taken n l more a b c ok count bytes =
 
 -- the first lines of a board are its lines
 start_free : (w h p : ℕ) → w ≤ 999999 → h ≤ 999999 → p ≤ 999999 → Free is_newline (start_content w h p)
-start_free w h p a b c = parted_free (codes "board" ∷ decimal w ∷ decimal h ∷ decimal p ∷ []) ((refl, (refl, (refl, (refl, (refl, tt))))), (decimal_free w a, (decimal_free h b, (decimal_free p c, tt))))
+start_free w h p a b c = separated_free (codes "board" ∷ decimal w ∷ decimal h ∷ decimal p ∷ []) ((refl, (refl, (refl, (refl, (refl, tt))))), (decimal_free w a, (decimal_free h b, (decimal_free p c, tt))))
 
 rows_free : (w h : ℕ) (cs : List ℕ) → AreBytes cs → AllByRecursion (Free is_newline) (map row_content (rows w h cs))
 rows_free w zero cs bytes = tt
-rows_free w (suc h) cs bytes = (parted_free (codes "row" ∷ flat_map hex (take w cs) ∷ []) ((refl, (refl, (refl, tt))), (hex_free (take w cs) (bytes_take w cs bytes), tt)), rows_free w h (drop w cs) (bytes_drop w cs bytes))
+rows_free w (suc h) cs bytes = (separated_free (codes "row" ∷ flat_map hex (take w cs) ∷ []) ((refl, (refl, (refl, tt))), (hex_free (take w cs) (bytes_take w cs bytes), tt)), rows_free w h (drop w cs) (bytes_drop w cs bytes))
 
 pub rows_joined : (rs : List (List ℕ)) → flat_map row_line rs ≡ flat_map ended (map row_content rs)
 rows_joined [] = refl

@@ -9,7 +9,7 @@ use Rattle.boards.proofs.HexText.{length-hex}
 use Rattle.boards.proofs.Rows.{next_place, place_within}
 use Rattle.boards.specs.Boards.{hex, rows, start_line, row_line, rows_text}
 use Rattle.text.proofs.Puts.{put_two, put_next, Written, piece}
-use Rattle.text.specs.Lines.{parted}
+use Rattle.text.specs.Lines.{separated}
 use Rattle.text.specs.Puts.{put_at}
 
 -- numbers of at most three digits
@@ -55,7 +55,7 @@ rows_push w (suc i) cs =
     ap (λ x. take w cs ∷ x) (rows_push w i (drop w cs)) ∙ ap (λ x. take w cs ∷ (rows w i (drop w cs) ++ (take w x ∷ []))) below
 
 length-row_line : (cs : List ℕ) → length (row_line cs) ≡ 2 * length cs + 5
-length-row_line cs = omega (arith, length-append (parted (codes "row" ∷ flat_map hex cs ∷ [])) (10 ∷ []), length-hex cs)
+length-row_line cs = omega (arith, length-append (separated (codes "row" ∷ flat_map hex cs ∷ [])) (10 ∷ []), length-hex cs)
 
 row_inside : (w h i : ℕ) (cs : List ℕ) → i < h → length cs ≡ h * w → length (take w (drop (i * w) cs)) ≡ w
 row_inside w h i cs l count = length-take-le w (drop (i * w) cs) (omega (arith, length-drop (i * w) cs, count, place_within w h i l))
@@ -86,12 +86,12 @@ row_more_put m cs a w h i end now new row l count room place before is here =
     put_next m a (rows_text w i cs) (row_line row) now new end before (omega (arith, place, len)) here (omega (arith, room, len, fits, length-row_line row, wide)) ∙ ap (put_at m a) (sym text ∙ ap (λ k. rows_text w k cs) (sym one))
 
 -- the same for a row that is borrowed from place i * w on, and where the next row goes
-pub row_step : (m cs : List ℕ) (a w h i end behind : ℕ) (now new : List ℕ) → i < h → length cs ≡ h * w → a + h * (2 * w + 5) ≤ length m → end ≡ a + i * (2 * w + 5) → now ≡ put_at m a (rows_text w i cs) → new ≡ put_at now end (row_line (take ((i + 1) * w - i * w) (drop (i * w) cs))) → behind ≡ end + 2 * length (take ((i + 1) * w - i * w) (drop (i * w) cs)) + 5 → (behind ≡ a + (i + 1) * (2 * w + 5)) × (new ≡ put_at m a (rows_text w (i + 1) cs))
-row_step m cs a w h i end behind now new l count room place before here behind-is =
+pub row_step : (m cs : List ℕ) (a w h i end after : ℕ) (now new : List ℕ) → i < h → length cs ≡ h * w → a + h * (2 * w + 5) ≤ length m → end ≡ a + i * (2 * w + 5) → now ≡ put_at m a (rows_text w i cs) → new ≡ put_at now end (row_line (take ((i + 1) * w - i * w) (drop (i * w) cs))) → after ≡ end + 2 * length (take ((i + 1) * w - i * w) (drop (i * w) cs)) + 5 → (after ≡ a + (i + 1) * (2 * w + 5)) × (new ≡ put_at m a (rows_text w (i + 1) cs))
+row_step m cs a w h i end after now new l count room place before here after-is =
     let wide : (i + 1) * w - i * w ≡ w = omega (arith, next_place w i) in
     let row : take ((i + 1) * w - i * w) (drop (i * w) cs) ≡ take w (drop (i * w) cs) = ap (λ k. take k (drop (i * w) cs)) wide in
     let len : length (take ((i + 1) * w - i * w) (drop (i * w) cs)) ≡ w = ap length row ∙ row_inside w h i cs l count in
-    (omega (arith, behind-is, len, place, next_place (2 * w + 5) i), row_more_put m cs a w h i end now new (take ((i + 1) * w - i * w) (drop (i * w) cs)) l count room place before row here)
+    (omega (arith, after-is, len, place, next_place (2 * w + 5) i), row_more_put m cs a w h i end now new (take ((i + 1) * w - i * w) (drop (i * w) cs)) l count room place before row here)
 
 pub start_pieces : (w h p : ℕ) → ((((((codes "board\t" ++ decimal w) ++ (9 ∷ [])) ++ decimal h) ++ (9 ∷ [])) ++ decimal p) ++ (10 ∷ [])) ≡ start_line w h p
 start_pieces w h p = simp append_assoc
@@ -99,11 +99,11 @@ start_pieces w h p = simp append_assoc
 -- the line of a board, piece by piece, where no number has more than three digits
 pub start_put : (m one two three four five six seven : List ℕ) (w h p a b c d e f g : ℕ) → 18 ≤ length m → length (decimal w) ≤ 3 → length (decimal h) ≤ 3 → length (decimal p) ≤ 3 → one ≡ put_at m 0 (codes "board\t") → a ≡ 6 → two ≡ put_at one a (decimal w) → b ≡ a + length (decimal w) → three ≡ put_at two b (9 ∷ []) → c ≡ b + 1 → four ≡ put_at three c (decimal h) → d ≡ c + length (decimal h) → five ≡ put_at four d (9 ∷ []) → e ≡ d + 1 → six ≡ put_at five e (decimal p) → f ≡ e + length (decimal p) → seven ≡ put_at six f (10 ∷ []) → g ≡ f + 1 → Written m (start_line w h p) seven g
 start_put m one two three four five six seven w h p a b c d e f g room ws hs ps m1 a-is m2 b-is m3 c-is m4 d-is m5 e-is m6 f-is m7 g-is =
-    let w1 : Written m (codes "board\t") one a = record { memory = m1; behind = a-is } in
+    let w1 : Written m (codes "board\t") one a = record { memory = m1; after = a-is } in
     let w2 = piece m (codes "board\t") (decimal w) one two a b w1 m2 b-is (omega (arith, room, ws)) in
-    let w3 = piece m _ (9 ∷ []) two three b c w2 m3 c-is (omega (arith, room, ws, w2.behind, a-is, b-is)) in
-    let w4 = piece m _ (decimal h) three four c d w3 m4 d-is (omega (arith, room, ws, hs, w3.behind, a-is, b-is, c-is)) in
-    let w5 = piece m _ (9 ∷ []) four five d e w4 m5 e-is (omega (arith, room, ws, hs, w4.behind, a-is, b-is, c-is, d-is)) in
-    let w6 = piece m _ (decimal p) five six e f w5 m6 f-is (omega (arith, room, ws, hs, ps, w5.behind, a-is, b-is, c-is, d-is, e-is)) in
-    let w7 = piece m _ (10 ∷ []) six seven f g w6 m7 g-is (omega (arith, room, ws, hs, ps, w6.behind, a-is, b-is, c-is, d-is, e-is, f-is)) in
+    let w3 = piece m _ (9 ∷ []) two three b c w2 m3 c-is (omega (arith, room, ws, w2.after, a-is, b-is)) in
+    let w4 = piece m _ (decimal h) three four c d w3 m4 d-is (omega (arith, room, ws, hs, w3.after, a-is, b-is, c-is)) in
+    let w5 = piece m _ (9 ∷ []) four five d e w4 m5 e-is (omega (arith, room, ws, hs, w4.after, a-is, b-is, c-is, d-is)) in
+    let w6 = piece m _ (decimal p) five six e f w5 m6 f-is (omega (arith, room, ws, hs, ps, w5.after, a-is, b-is, c-is, d-is, e-is)) in
+    let w7 = piece m _ (10 ∷ []) six seven f g w6 m7 g-is (omega (arith, room, ws, hs, ps, w6.after, a-is, b-is, c-is, d-is, e-is, f-is)) in
     subst (λ (x : List ℕ). Written m x seven g) (start_pieces w h p) w7

@@ -12,30 +12,30 @@ use Rattle.boards.specs.Reading.{on_first, row_at, rows_from}
 use Rattle.boards.specs.Steps.{LineDown, LinesDown, lines_left}
 
 -- the cells cs and then those of a
-abbrev pub behind : List ℕ → Result (List ℕ) RecordFault → Result (List ℕ) RecordFault
-behind cs a = a >>= λ more. Ok (cs ++ more)
+abbrev pub after : List ℕ → Result (List ℕ) RecordFault → Result (List ℕ) RecordFault
+after cs a = a >>= λ more. Ok (cs ++ more)
 
-behind_none : (a : Result (List ℕ) RecordFault) → behind [] a ≡ a
-behind_none (Ok cs) = refl
-behind_none (Err e) = refl
+after_none : (a : Result (List ℕ) RecordFault) → after [] a ≡ a
+after_none (Ok cs) = refl
+after_none (Err e) = refl
 
-behind_two : (xs ys : List ℕ) (a : Result (List ℕ) RecordFault) → behind xs (behind ys a) ≡ behind (xs ++ ys) a
-behind_two xs ys (Ok cs) = ap Ok (sym (append_assoc xs ys cs))
-behind_two xs ys (Err e) = refl
+after_two : (xs ys : List ℕ) (a : Result (List ℕ) RecordFault) → after xs (after ys a) ≡ after (xs ++ ys) a
+after_two xs ys (Ok cs) = ap Ok (sym (append_assoc xs ys cs))
+after_two xs ys (Err e) = refl
 
 -- after the first i of h rows from r on, which have the cells `front`, the reader is s
 pub record RowsRead (w h : ℕ) (r : Reader) (i : ℕ) (s : Reader) (front : List ℕ) : Type 0 where
   pub down : LinesDown i r s
-  pub rows : rows_from w h (line_of r) (lines_left r) ≡ behind front (rows_from w (h - i) (line_of s) (lines_left s))
+  pub rows : rows_from w h (line_of r) (lines_left r) ≡ after front (rows_from w (h - i) (line_of s) (lines_left s))
 
 pub no_row : (w h : ℕ) (r : Reader) → fields_read_of r ≡ 0 → RowsRead w h r 0 r []
 no_row w h r begins = record {
   down = record { text = refl; lines = refl; line = omega arith; begins = begins };
-  rows = sym (behind_none (rows_from w (h - 0) (line_of r) (lines_left r)) ∙ ap (λ k. rows_from w k (line_of r) (lines_left r)) (omega arith));
+  rows = sym (after_none (rows_from w (h - 0) (line_of r) (lines_left r)) ∙ ap (λ k. rows_from w k (line_of r) (lines_left r)) (omega arith));
 }
 
 -- the rows that are left, if there is one
-rows_more : (w h i n : ℕ) (ls : List (List ℕ)) → i < h → rows_from w (h - i) n ls ≡ (on_first (row_at w) n ls >>= λ cs. behind cs (rows_from w (h - (i + 1)) (n + 1) (drop 1 ls)))
+rows_more : (w h i n : ℕ) (ls : List (List ℕ)) → i < h → rows_from w (h - i) n ls ≡ (on_first (row_at w) n ls >>= λ cs. after cs (rows_from w (h - (i + 1)) (n + 1) (drop 1 ls)))
 rows_more w h i n ls l = let left : h - i ≡ suc (h - (i + 1)) = omega arith in ap (λ k. rows_from w k n ls) left
 
 pub one_row : (w h : ℕ) (r : Reader) (i : ℕ) (s : Reader) (front : List ℕ) (t : Reader) (cs : List ℕ) → RowsRead w h r i s front → i < h → on_first (row_at w) (line_of s) (lines_left s) ≡ Ok cs → LineDown s t → RowsRead w h r (i + 1) t (front ++ cs)
@@ -47,17 +47,17 @@ one_row w h r i s front t cs before l row d = record {
     begins = d.begins;
   };
   rows =
-      before.rows ∙ ap (behind front) (rows_more w h i (line_of s) (lines_left s) l ∙ ap (λ a. a >>= λ xs. behind xs (rows_from w (h - (i + 1)) (line_of s + 1) (drop 1 (lines_left s)))) row)
-      ∙ behind_two front cs (rows_from w (h - (i + 1)) (line_of s + 1) (drop 1 (lines_left s)))
-      ∙ ap (λ n. behind (front ++ cs) (rows_from w (h - (i + 1)) n (drop 1 (lines_left s)))) (sym d.line)
-      ∙ ap (λ ls. behind (front ++ cs) (rows_from w (h - (i + 1)) (line_of t) ls)) (sym d.lines);
+      before.rows ∙ ap (after front) (rows_more w h i (line_of s) (lines_left s) l ∙ ap (λ a. a >>= λ xs. after xs (rows_from w (h - (i + 1)) (line_of s + 1) (drop 1 (lines_left s)))) row)
+      ∙ after_two front cs (rows_from w (h - (i + 1)) (line_of s + 1) (drop 1 (lines_left s)))
+      ∙ ap (λ n. after (front ++ cs) (rows_from w (h - (i + 1)) n (drop 1 (lines_left s)))) (sym d.line)
+      ∙ ap (λ ls. after (front ++ cs) (rows_from w (h - (i + 1)) (line_of t) ls)) (sym d.lines);
 }
 
 pub bad_row : (w h : ℕ) (r : Reader) (i : ℕ) (s : Reader) (front : List ℕ) (e : RecordFault) → RowsRead w h r i s front → i < h → on_first (row_at w) (line_of s) (lines_left s) ≡ Err e → rows_from w h (line_of r) (lines_left r) ≡ Err e
-bad_row w h r i s front e before l row = before.rows ∙ ap (behind front) (rows_more w h i (line_of s) (lines_left s) l ∙ ap (λ a. a >>= λ xs. behind xs (rows_from w (h - (i + 1)) (line_of s + 1) (drop 1 (lines_left s)))) row)
+bad_row w h r i s front e before l row = before.rows ∙ ap (after front) (rows_more w h i (line_of s) (lines_left s) l ∙ ap (λ a. a >>= λ xs. after xs (rows_from w (h - (i + 1)) (line_of s + 1) (drop 1 (lines_left s)))) row)
 
 pub all_rows : (w h : ℕ) (r : Reader) (i : ℕ) (s : Reader) (front : List ℕ) → RowsRead w h r i s front → h ≤ i → rows_from w h (line_of r) (lines_left r) ≡ Ok front
-all_rows w h r i s front done l = let left : h - i ≡ 0 = omega arith in done.rows ∙ ap (λ k. behind front (rows_from w k (line_of s) (lines_left s))) left ∙ ap Ok (append-nil front)
+all_rows w h r i s front done l = let left : h - i ≡ 0 = omega arith in done.rows ∙ ap (λ k. after front (rows_from w k (line_of s) (lines_left s))) left ∙ ap Ok (append-nil front)
 
 pub next_place : (w i : ℕ) → (i + 1) * w ≡ i * w + w
 next_place w i = let one : i + 1 ≡ suc i = omega arith in ap (λ k. k * w) one ∙ suc-mul i w

@@ -8,7 +8,7 @@
 use Rattle.std.specs.Prelude.{ℕ, zero, suc, ◌/◌, ◌%◌, false, List, [], ◌∷◌, ◌++◌, take, drop, flat_map, codes}
 use Rattle.std.specs.Fmt.{decimal, digit_glyph}
 use Rattle.lattice.specs.Lattice.{Lattice}
-use Rattle.text.specs.Lines.{ended, parted}
+use Rattle.text.specs.Lines.{ended, separated}
 
 abbrev pub hex : ℕ → List ℕ
 hex c = digit_glyph false (c / 16) ∷ digit_glyph false (c % 16) ∷ []
@@ -18,10 +18,10 @@ rows w zero cs = []
 rows w (suc h) cs = take w cs ∷ rows w h (drop w cs)
 
 abbrev pub start_line : ℕ → ℕ → ℕ → List ℕ
-start_line w h p = ended (parted (codes "board" ∷ decimal w ∷ decimal h ∷ decimal p ∷ []))
+start_line w h p = ended (separated (codes "board" ∷ decimal w ∷ decimal h ∷ decimal p ∷ []))
 
 abbrev pub row_line : List ℕ → List ℕ
-row_line cs = ended (parted (codes "row" ∷ flat_map hex cs ∷ []))
+row_line cs = ended (separated (codes "row" ∷ flat_map hex cs ∷ []))
 
 abbrev pub rows_text : ℕ → ℕ → List ℕ → List ℕ
 rows_text w h cs = flat_map row_line (rows w h cs)

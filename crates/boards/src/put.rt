@@ -8,7 +8,7 @@ ghost use Rattle.text.specs.Puts.{put_at};
 pub(crate) fn put(bytes: &[u8], memory: &mut [u8], at: usize) -> usize
     requires { at + length bytes.now ≤ length memory.old }
     ensures memory { memory.new ≡ put_at memory.old at bytes.now }
-    ensures behind { result ≡ at + length bytes.now }
+    ensures after { result ≡ at + length bytes.now }
 {
     let end = at + bytes.len();
     memory[at..end].copy_from_slice(bytes);
@@ -21,7 +21,7 @@ pub(crate) fn put_number(n: usize, memory: &mut [u8], at: usize) -> usize
     requires small { n ≤ 999 }
     requires room { at + 3 ≤ length memory.old }
     ensures memory { memory.new ≡ put_at memory.old at (decimal n) }
-    ensures behind { result ≡ at + length (decimal n) }
+    ensures after { result ≡ at + length (decimal n) }
     ensures short { length (decimal n) ≤ 3 }
 {
     let ones = b'0' + (n % 10) as u8;
@@ -51,7 +51,7 @@ fn glyph(value: u8) -> u8
 pub(crate) fn put_cells(cells: &[u8], memory: &mut [u8], at: usize) -> usize
     requires { at + 2 * length cells.now ≤ length memory.old }
     ensures memory { memory.new ≡ put_at memory.old at (flat_map hex cells.now) }
-    ensures behind { result ≡ at + 2 * length cells.now }
+    ensures after { result ≡ at + 2 * length cells.now }
 {
     let mut end = at;
     for cell in cells {

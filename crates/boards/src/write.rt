@@ -19,7 +19,7 @@ const LINE_ROOM: usize = 18;
 fn put_row(cells: &[u8], memory: &mut [u8], at: usize) -> usize
     requires { at + 2 * length cells.now + 5 ≤ length memory.old }
     ensures memory { memory.new ≡ put_at memory.old at (row_line cells.now) }
-    ensures behind { result ≡ at + 2 * length cells.now + 5 }
+    ensures after { result ≡ at + 2 * length cells.now + 5 }
 {
     let digits = put(b"row\t", memory, at);
     let end = put_cells(cells, memory, digits);
@@ -44,7 +44,7 @@ fn put_rows(width: usize, height: usize, cells: &[u8], memory: &mut [u8], at: us
 fn put_start(start: &Start, line: &mut [u8]) -> usize
     requires { LINE_ROOM ≤ length line.old }
     ensures memory { line.new ≡ put_at line.old 0 (start_line (width_of start.now) (height_of start.now) (phase_of start.now)) }
-    ensures behind { result ≡ length (start_line (width_of start.now) (height_of start.now) (phase_of start.now)) }
+    ensures after { result ≡ length (start_line (width_of start.now) (height_of start.now) (phase_of start.now)) }
     ensures short { result ≤ LINE_ROOM }
 {
     let width_at = put(b"board\t", line, 0);

@@ -3,7 +3,7 @@ use Rattle.std.proofs.Common.{◌≡◌, List, [], ◌∷◌, ◌++◌, map, Ok,
 use Rattle.std.proofs.lemmas.List.{append_assoc, append-nil}
 use Rattle.lives.specs.declared.event.Event.{Event}
 use Rattle.scripts.specs.Judgements.{in_front}
-use Rattle.scripts.specs.Reading.{left_of, LeftBehind}
+use Rattle.scripts.specs.Reading.{left_of, LeftAfter}
 use Rattle.scripts.specs.declared.record.Record.{Record}
 use Rattle.scripts.specs.declared.records.Records.{Records}
 use Rattle.home_and_mirror.specs.Events.{own_event}
@@ -17,7 +17,7 @@ one_more first r s es x before left all rs is rest =
     let there : left_of r ≡ Ok (x ∷ rs) = left ∙ ap (in_front x) rest in
     before all (x ∷ rs) is there ∙ sym (append_assoc es (own_event x ∷ []) (map own_event rs))
 
-pub no_more : (r s : Records) (o : Option Record) → ((x : Record) → o ≡ Some x → ⊥) → LeftBehind r (Ok o) s → left_of r ≡ Ok []
+pub no_more : (r s : Records) (o : Option Record) → ((x : Record) → o ≡ Some x → ⊥) → LeftAfter r (Ok o) s → left_of r ≡ Ok []
 no_more r s None none left = left
 no_more r s (Some x) none left = absurd (none x refl)
 

@@ -34,8 +34,8 @@ module _ (j : Job) (bs cs rest : List ℕ) (o : Opening) (b : Bench NamedMap) (o
   asked_is : asked j.lattice o.script_line rest ≡ Ok j.records
   asked_is = rw (eq-eqb (length j.lattice.cells) (j.lattice.width * j.lattice.height) opens.whole) (ap (λ t. risen (script o.script_line t)) text ∙ ap risen opens.script)
 
-  told : run_answer (forward_of (map_of b)) (backward_of (map_of b)) (rest_scene b cs) o.script_line rest ≡ answer j
-  told =
+  answered : run_answer (forward_of (map_of b)) (backward_of (map_of b)) (rest_scene b cs) o.script_line rest ≡ answer j
+  answered =
       ap₂ (λ m s. run_answer (forward_of m) (backward_of m) s o.script_line rest) map_is scene_is
       ∙ ap (λ a. a >>= λ rs. answer_of o.script_line (first_refused (forward_of j.map) (backward_of j.map) (first_scene j) rs) rs) asked_is
       ∙ ap (λ n. answer_of n (first_refused (forward_of j.map) (backward_of j.map) (first_scene j) j.records) j.records) opens.line
@@ -54,9 +54,9 @@ module _ (j : Job) (bs cs rest : List ℕ) (o : Opening) (b : Bench NamedMap) (o
 
     pub job_made : (n : ℕ) (d : Done) → Ok n ≡ run_answer (forward_of (map_of b)) (backward_of (map_of b)) (rest_scene b cs) o.script_line rest → d.made ≡ n → d.start ≡ start_of b' → d.counts ≡ counts (ledger_of b') (phase_of (start_of b')) → JobMade j cs' (Ok d)
     job_made n d is made start' counted =
-        let told' : answer j ≡ Ok d.made = sym (is ∙ told) ∙ ap Ok (sym made) in
+        let answered' : answer j ≡ Ok d.made = sym (is ∙ answered) ∙ ap Ok (sym made) in
         let held' : held d.start (outcome j).lattice.cells ≡ (outcome j).lattice = ap₂ held start' (sym cells_then) ∙ ap (λ (s : Scene). s.lattice) ended in
-        ((told', held', counted ∙ ap (λ (s : Scene). counts s.ledger s.lattice.phase) ended), cells_then)
+        ((answered', held', counted ∙ ap (λ (s : Scene). counts s.ledger s.lattice.phase) ended), cells_then)
 
     pub job_stopped : (e : RunFault) → Err e ≡ run_answer (forward_of (map_of b)) (backward_of (map_of b)) (rest_scene b cs) o.script_line rest → JobMade j cs' (Err e)
-    job_stopped e is = (sym (is ∙ told), cells_then)
+    job_stopped e is = (sym (is ∙ answered), cells_then)

@@ -13,7 +13,7 @@ use Rattle.runs.proofs.StandingRuns.{Stands, stands_opened, stands_after, stands
 use Rattle.runs.specs.Runs.{first_refused, made_of}
 use Rattle.scripts.specs.declared.state.State.TheVariants.{Rest}
 use Rattle.jobs.proofs.JobLaws.{job_was, job_written}
-use Rattle.jobs.specs.Answers.{Filled, JobTold, JobRun}
+use Rattle.jobs.specs.Answers.{Filled, JobAnswered, JobRun}
 use Rattle.jobs.specs.Jobs.{Job, job}
 use Rattle.jobs.specs.Laws.{IsJob, standing_board, StandsOn}
 use Rattle.jobs.specs.Outcomes.{first_scene, outcome}
@@ -34,9 +34,9 @@ outcome_stands j within =
 pub outcome_rests : (j : Job) → (outcome j).ledger.state ≡ Rest
 outcome_rests j = rests_closed (forward_of j.map) (backward_of j.map) (made j).ledger.state (made j) refl
 
-start_stands : (j : Job) (r : Result Done RunFault) → JobTold j r → (outcome j).lattice ≡ standing_board j → IfOk r (λ d. StartOf (standing_board j) d.start)
-start_stands j (Err e) told is = tt
-start_stands j (Ok d) told is = subst (λ (m : Lattice). StartOf m d.start) is told.1
+start_stands : (j : Job) (r : Result Done RunFault) → JobAnswered j r → (outcome j).lattice ≡ standing_board j → IfOk r (λ d. StartOf (standing_board j) d.start)
+start_stands j (Err e) answered is = tt
+start_stands j (Ok d) answered is = subst (λ (m : Lattice). StartOf m d.start) is answered.1
 
 pub job_stands : (bs old new : List ℕ) (r : Result Done RunFault) (j : Job) → JobRun (job (length old) bs) old new r → IsJob j bs → length j.lattice.cells ≤ length old → StandsOn j old new r
 unfolding StandsOn

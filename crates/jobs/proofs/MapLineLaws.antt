@@ -12,10 +12,10 @@ use Rattle.named_maps.specs.Choice.{all_maps, name_of, map_named}
 use Rattle.named_maps.specs.declared.named.NamedMap.TheVariants.{Bbm, Critters, Tron, Life2, Mixed}
 use Rattle.named_maps.specs.declared.named.NamedMap.{NamedMap}
 use Rattle.text.proofs.Cuts.{Free, after_front, after_yes}
-use Rattle.text.proofs.EndedLines.{first_ended, ended_by_fields, fields_of_parted, lines_of_front}
-use Rattle.text.proofs.LineFields.{tabless, parted_free}
+use Rattle.text.proofs.EndedLines.{first_ended, ended_by_fields, fields_of_separated, lines_of_front}
+use Rattle.text.proofs.LineFields.{tabless, separated_free}
 use Rattle.text.proofs.LinesLeft.{lines_cons}
-use Rattle.text.specs.Lines.{is_newline, is_separator, first_line, below_first, lines, parted, fields}
+use Rattle.text.specs.Lines.{is_newline, is_separator, first_line, below_first, lines, separated, fields}
 use Rattle.text.specs.Wholes.{finished}
 use Rattle.jobs.specs.Jobs.{named_at, map_at}
 use Rattle.jobs.specs.Laws.{map_line}
@@ -56,7 +56,7 @@ map_line_was (b ∷ bs) m ends is =
 
 -- a map line that is written
 abbrev pub map_content : NamedMap → List ℕ
-map_content m = parted (codes "map" ∷ name_of m ∷ [])
+map_content m = separated (codes "map" ∷ name_of m ∷ [])
 
 name_free : (m : NamedMap) → Free is_separator (name_of m)
 name_free Bbm = (refl, (refl, (refl, tt)))
@@ -69,7 +69,7 @@ fields_free : (m : NamedMap) → AllByRecursion (Free is_separator) (codes "map"
 fields_free m = ((refl, (refl, (refl, tt))), (name_free m, tt))
 
 content_free : (m : NamedMap) → Free is_newline (map_content m)
-content_free m = parted_free (codes "map" ∷ name_of m ∷ []) (fields_free m)
+content_free m = separated_free (codes "map" ∷ name_of m ∷ []) (fields_free m)
 
 map_taken : (m : NamedMap) → map_at 1 (codes "map" ∷ name_of m ∷ []) ≡ Ok m
 map_taken Bbm = refl
@@ -82,7 +82,7 @@ pub map_line_taken : (m : NamedMap) (more : List ℕ) → on_first map_at 1 (lin
 map_line_taken m more =
     let first : lines (map_line m ++ more) ≡ map_content m ∷ lines more = ap (λ l. lines (l ++ more)) (sym (append-nil (map_line m))) ∙ lines_of_front (map_content m ∷ []) more (content_free m, tt) in
     ap (on_first map_at 1) first
-    ∙ ap (map_at 1) (fields_of_parted (codes "map") (name_of m ∷ []) (tabless (codes "map" ∷ name_of m ∷ []) (fields_free m)))
+    ∙ ap (map_at 1) (fields_of_separated (codes "map") (name_of m ∷ []) (tabless (codes "map" ∷ name_of m ∷ []) (fields_free m)))
     ∙ map_taken m
 
 pub below_map_line : (m : NamedMap) (more : List ℕ) → below_first (map_line m ++ more) ≡ more

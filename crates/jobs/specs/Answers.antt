@@ -2,7 +2,7 @@
 --     Filled cs old new            the memory goes from `old` to `new`: it begins with the cells cs, and the bytes after them are kept
 --     Opens j bs o                 o is what the job j with the text bs opens with. Where its script begins follows from its records, which have only one text
 --     JobOpened a bs old new r     r is the result of opening the job a, whose text is bs; the cells memory goes from `old` to `new`
---     JobTold j r                  r is the result of running the job j
+--     JobAnswered j r                  r is the result of running the job j
 --     JobMade j cs r               r is that, and the cells are cs afterwards
 --     JobRun a old new r           r is the result of running the job a; the cells memory goes from `old` to `new`
 use Rattle.std.specs.Prelude.{◌≡◌, ℕ, ◌≤◌, List, ◌++◌, length, drop, Result, Ok, Err}
@@ -35,13 +35,13 @@ JobOpened (Ok j) bs old new (Err e) = ⊥
 JobOpened (Err d) bs old new (Ok o) = ⊥
 JobOpened (Err d) bs old new (Err e) = (e ≡ d) × (new ≡ old)
 
-abbrev pub JobTold : Job → Result Done RunFault → Type 0
-JobTold j (Ok d) = (answer j ≡ Ok d.made) × StartOf (outcome j).lattice d.start × (d.counts ≡ counts (outcome j).ledger (outcome j).lattice.phase)
-JobTold j (Err e) = answer j ≡ Err e
+abbrev pub JobAnswered : Job → Result Done RunFault → Type 0
+JobAnswered j (Ok d) = (answer j ≡ Ok d.made) × StartOf (outcome j).lattice d.start × (d.counts ≡ counts (outcome j).ledger (outcome j).lattice.phase)
+JobAnswered j (Err e) = answer j ≡ Err e
 
 abbrev pub JobMade : Job → List ℕ → Result Done RunFault → Type 0
-JobMade j cs r = JobTold j r × (cs ≡ (outcome j).lattice.cells)
+JobMade j cs r = JobAnswered j r × (cs ≡ (outcome j).lattice.cells)
 
 abbrev pub JobRun : Result Job RecordFault → List ℕ → List ℕ → Result Done RunFault → Type 0
-JobRun (Ok j) old new r = JobTold j r × Filled (outcome j).lattice.cells old new
+JobRun (Ok j) old new r = JobAnswered j r × Filled (outcome j).lattice.cells old new
 JobRun (Err e) old new r = (r ≡ Err (Record e)) × (new ≡ old)

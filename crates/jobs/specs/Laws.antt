@@ -18,7 +18,7 @@ use Rattle.named_maps.specs.declared.named.NamedMap.{NamedMap}
 use Rattle.scripts.specs.Records.{script_of, Writable}
 use Rattle.scripts.specs.States.{Leads}
 use Rattle.scripts.specs.declared.state.State.TheVariants.{Rest}
-use Rattle.text.specs.Lines.{ended, parted}
+use Rattle.text.specs.Lines.{ended, separated}
 use Rattle.text.specs.Wholes.{max_text}
 use Rattle.jobs.specs.Answers.{Filled}
 use Rattle.jobs.specs.Jobs.{Job}
@@ -26,7 +26,7 @@ use Rattle.jobs.specs.Outcomes.{outcome}
 use Rattle.jobs.specs.declared.done.Done.{Done}
 
 abbrev pub map_line : NamedMap → List ℕ
-map_line m = ended (parted (codes "map" ∷ name_of m ∷ []))
+map_line m = ended (separated (codes "map" ∷ name_of m ∷ []))
 
 abbrev pub job_text : Job → List ℕ
 job_text j = map_line j.map ++ (board_text j.lattice ++ script_of j.records)

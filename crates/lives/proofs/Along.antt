@@ -5,10 +5,10 @@ use Rattle.lattice.specs.Lattice.{Lattice, Within}
 use Rattle.lattice.specs.Maps.{Reversible}
 use Rattle.ledger.proofs.Mirrored.{mirrored}
 use Rattle.ledger.specs.Ledgers.{Ledger, counts}
-use Rattle.lives.proofs.MirrorLaws.{mirror_counts, mirror_tells}
-use Rattle.lives.proofs.Pairs.{bench_told, bench_ledger, bench_lattice, image_told, image_ledger, image_lattice}
-use Rattle.lives.specs.Events.{event_told, event_booked, event_made}
-use Rattle.lives.specs.Lives.{life_ledger, life_lattice, told_after, of_mirror, seen_after}
+use Rattle.lives.proofs.MirrorLaws.{mirror_counts, mirror_replies}
+use Rattle.lives.proofs.Pairs.{bench_answered, bench_ledger, bench_lattice, image_answered, image_ledger, image_lattice}
+use Rattle.lives.specs.Events.{event_answered, event_booked, event_made}
+use Rattle.lives.specs.Lives.{life_ledger, life_lattice, reply_after, of_mirror, seen_after}
 use Rattle.lives.specs.Mirrors.{mirror_event}
 use Rattle.lives.specs.declared.event.Event.{Event}
 use Rattle.lives.specs.declared.event.Seen.{Seen}
@@ -30,23 +30,23 @@ module _ (f g : Lattice → Lattice) (laws : Reversible f g) (l : Lattice) (insi
     image_lattice = image_made ∙ image_lattice f g laws l inside n es i y e so_far.image_lattice so_far.image_ledger;
   }
 
-  bench_counts : counts x' h'.phase ≡ (told_after f g l n es e).counts
+  bench_counts : counts x' h'.phase ≡ (reply_after f g l n es e).counts
   bench_counts = ap₂ (λ u m. counts u m.phase) along_more.ledger along_more.lattice
 
-  image_counts : counts y' i'.phase ≡ (of_mirror (told_after f g l n es e)).counts
+  image_counts : counts y' i'.phase ≡ (of_mirror (reply_after f g l n es e)).counts
   image_counts =
       ap₂ (λ u m. counts u m.phase) along_more.image_ledger along_more.image_lattice
       ∙ mirror_counts (life_ledger l n (es ++ (e ∷ []))) (life_lattice f g l n (es ++ (e ∷ []))).phase
 
   -- what both report
-  pub seen_more : (s : Seen) → s.bench.answer ≡ event_told h.width h.height n e x → s.bench.counts ≡ counts x' h'.phase
-      → s.mirror.answer ≡ event_told i.width i.height n (mirror_event e) y → s.mirror.counts ≡ counts y' i'.phase → s ≡ seen_after f g l n es e
+  pub seen_more : (s : Seen) → s.bench.answer ≡ event_answered h.width h.height n e x → s.bench.counts ≡ counts x' h'.phase
+      → s.mirror.answer ≡ event_answered i.width i.height n (mirror_event e) y → s.mirror.counts ≡ counts y' i'.phase → s ≡ seen_after f g l n es e
   seen_more s a c b d =
-      let told = a ∙ bench_told f g laws l inside n es h x e so_far.lattice so_far.ledger in
-      let image = b ∙ image_told f g laws l inside n es i y e so_far.image_lattice so_far.image_ledger in
+      let answered = a ∙ bench_answered f g laws l inside n es h x e so_far.lattice so_far.ledger in
+      let image = b ∙ image_answered f g laws l inside n es i y e so_far.image_lattice so_far.image_ledger in
       let both = c ∙ bench_counts in
       let both_images = d ∙ image_counts in
-      let is : s ≡ record { bench = told_after f g l n es e; mirror = of_mirror (told_after f g l n es e) } =
-      λ j. record { bench = record { answer = told j; counts = both j }; mirror = record { answer = image j; counts = both_images j } }
+      let is : s ≡ record { bench = reply_after f g l n es e; mirror = of_mirror (reply_after f g l n es e) } =
+      λ j. record { bench = record { answer = answered j; counts = both j }; mirror = record { answer = image j; counts = both_images j } }
       in
-      is ∙ ap (λ t. record { bench = told_after f g l n es e; mirror = t }) (sym (mirror_tells f g l n es e))
+      is ∙ ap (λ t. record { bench = reply_after f g l n es e; mirror = t }) (sym (mirror_replies f g l n es e))

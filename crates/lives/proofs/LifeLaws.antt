@@ -2,7 +2,7 @@
 use Rattle.std.proofs.Common.{◌≡◌, ℕ, cond, List, [], ◌∷◌, ◌++◌, fold, refl, ap₂, ◌∙◌}
 use Rattle.std.proofs.lemmas.Bool.{and_parts, cond_both}
 use Rattle.std.proofs.lemmas.List.Sums.{fold_push}
-use Rattle.any_bench.proofs.PassedOver.{at_test}
+use Rattle.any_bench.proofs.Skipped.{at_test}
 use Rattle.lattice.specs.Lattice.{Lattice, Within, SameShape}
 use Rattle.lattice.specs.Maps.{Reversible}
 use Rattle.ledger.proofs.Held.{moved_held}

@@ -3,7 +3,7 @@ use Rattle.std.proofs.Common.{◌≡◌, ℕ, ◌*◌, Bool, true, false, cond, 
 use Rattle.std.proofs.lemmas.List.{length-map, map-append}
 use Rattle.std.specs.Prelude.{◌&&◌, ◌==◌, not}
 use Rattle.any_bench.specs.Answers.{said}
-use Rattle.any_bench.specs.declared.answer.Answer.TheVariants.{PassedOver, Given}
+use Rattle.any_bench.specs.declared.answer.Answer.TheVariants.{Skipped, Given}
 use Rattle.lattice.proofs.Reversed.{reverse_laws}
 use Rattle.lattice.specs.Lattice.{Lattice, Within}
 use Rattle.lattice.specs.Maps.{Reversible}
@@ -15,8 +15,8 @@ use Rattle.ledger.specs.Ledgers.{Ledger, at_opening, clock_of, counts}
 use Rattle.ledger.specs.Mirrors.{mirror_call}
 use Rattle.ledger.specs.Refusals.{takes_cells, answer, after}
 use Rattle.lives.proofs.LifeLaws.{event_held}
-use Rattle.lives.specs.Events.{is_part, lent_cells, is_call, event_told, event_booked, event_made}
-use Rattle.lives.specs.Lives.{life_ledger, life_lattice, told_after, of_mirror}
+use Rattle.lives.specs.Events.{is_part, lent_cells, is_call, event_answered, event_booked, event_made}
+use Rattle.lives.specs.Lives.{life_ledger, life_lattice, reply_after, of_mirror}
 use Rattle.lives.specs.Mirrors.{mirror_event}
 use Rattle.lives.specs.declared.event.Event.{Event}
 use Rattle.scripts.specs.States.{permits}
@@ -25,10 +25,10 @@ module _ (w h n : ℕ) (e : Event) (led : Ledger) where
   same_call : is_call w h n (mirror_event e) (mirrored led) ≡ is_call w h n e led
   same_call = ap₂ (λ k t. permits led.state k && not (t && (is_part e.lent && lent_cells w h n e == w * h))) (same_kind e.call) (takes_mirrored e.call)
 
-  pub mirror_told : event_told w h n (mirror_event e) (mirrored led) ≡ event_told w h n e led
-  mirror_told =
-      ap (λ b. cond b (cond (takes_cells (mirror_call e.call)) (said (answer w h (lent_cells w h n e) (mirror_call e.call) (mirrored led))) Given) PassedOver) same_call
-      ∙ ap₂ (λ t a. cond (is_call w h n e led) (cond t (said a) Given) PassedOver) (takes_mirrored e.call) (answer_mirrored w h (lent_cells w h n e) e.call led)
+  pub mirror_answered : event_answered w h n (mirror_event e) (mirrored led) ≡ event_answered w h n e led
+  mirror_answered =
+      ap (λ b. cond b (cond (takes_cells (mirror_call e.call)) (said (answer w h (lent_cells w h n e) (mirror_call e.call) (mirrored led))) Given) Skipped) same_call
+      ∙ ap₂ (λ t a. cond (is_call w h n e led) (cond t (said a) Given) Skipped) (takes_mirrored e.call) (answer_mirrored w h (lent_cells w h n e) e.call led)
 
   either : (b : Bool) (x : Ledger) → cond b (mirrored x) (mirrored led) ≡ mirrored (cond b x led)
   either true x = refl
@@ -71,9 +71,9 @@ module _ (f g : Lattice → Lattice) (l : Lattice) (n : ℕ) (es : List Event) (
   more = sym (map-append mirror_event es (e ∷ []))
 
   -- and reports the same, with the opposite clock
-  pub mirror_tells : told_after g f l n (map mirror_event es) (mirror_event e) ≡ of_mirror (told_after f g l n es e)
-  mirror_tells =
-      let a = ap (event_told l.width l.height n (mirror_event e)) (mirror_life l n es) ∙ mirror_told l.width l.height n e (life_ledger l n es) in
+  pub mirror_replies : reply_after g f l n (map mirror_event es) (mirror_event e) ≡ of_mirror (reply_after f g l n es e)
+  mirror_replies =
+      let a = ap (event_answered l.width l.height n (mirror_event e)) (mirror_life l n es) ∙ mirror_answered l.width l.height n e (life_ledger l n es) in
       let led = ap (life_ledger l n) more ∙ mirror_life l n (es ++ (e ∷ [])) in
       let lattice = ap (life_lattice g f l n) more ∙ mirror_holds f g l n (es ++ (e ∷ [])) in
       let c = ap₂ (λ x m. counts x m.phase) led lattice ∙ mirror_counts (life_ledger l n (es ++ (e ∷ []))) (life_lattice f g l n (es ++ (e ∷ []))).phase in

@@ -8,8 +8,8 @@ use Rattle.ledger.proofs.Shapes.{standing_shape}
 use Rattle.ledger.specs.Effects.{standing_for}
 use Rattle.ledger.specs.Ledgers.{Ledger}
 use Rattle.lives.proofs.LifeLaws.{life_sound, life_more, event_held}
-use Rattle.lives.proofs.MirrorLaws.{mirror_told, mirror_booked, mirror_held}
-use Rattle.lives.specs.Events.{event_told, event_booked, event_made}
+use Rattle.lives.proofs.MirrorLaws.{mirror_answered, mirror_booked, mirror_held}
+use Rattle.lives.specs.Events.{event_answered, event_booked, event_made}
 use Rattle.lives.specs.Lives.{life_ledger, life_lattice}
 use Rattle.lives.specs.Mirrors.{mirror_event}
 use Rattle.lives.specs.declared.event.Event.{Event}
@@ -30,8 +30,8 @@ module _ (f g : Lattice → Lattice) (laws : Reversible f g) (l : Lattice) (insi
     high = ap (λ m. m.height) held_is ∙ life_shape.height
 
     module _ (led_is : x ≡ life_ledger l n es) where
-      pub bench_told : event_told h.width h.height n e x ≡ event_told l.width l.height n e (life_ledger l n es)
-      bench_told = ap₂ (λ w k. event_told w k n e x) wide high ∙ ap (event_told l.width l.height n e) led_is
+      pub bench_answered : event_answered h.width h.height n e x ≡ event_answered l.width l.height n e (life_ledger l n es)
+      bench_answered = ap₂ (λ w k. event_answered w k n e x) wide high ∙ ap (event_answered l.width l.height n e) led_is
 
       pub bench_ledger : event_booked h.width h.height n e x ≡ life_ledger l n (es ++ (e ∷ []))
       bench_ledger = ap₂ (λ w k. event_booked w k n e x) wide high ∙ ap (event_booked l.width l.height n e) led_is ∙ sym (life_more l n es e)
@@ -43,9 +43,9 @@ module _ (f g : Lattice → Lattice) (laws : Reversible f g) (l : Lattice) (insi
           ∙ ap (λ y. standing_for f g y l) (sym (life_more l n es e))
 
     module _ (led_is : x ≡ mirrored (life_ledger l n es)) where
-      pub image_told : event_told h.width h.height n (mirror_event e) x ≡ event_told l.width l.height n e (life_ledger l n es)
-      image_told =
-          ap₂ (λ w k. event_told w k n (mirror_event e) x) wide high ∙ ap (event_told l.width l.height n (mirror_event e)) led_is ∙ mirror_told l.width l.height n e (life_ledger l n es)
+      pub image_answered : event_answered h.width h.height n (mirror_event e) x ≡ event_answered l.width l.height n e (life_ledger l n es)
+      image_answered =
+          ap₂ (λ w k. event_answered w k n (mirror_event e) x) wide high ∙ ap (event_answered l.width l.height n (mirror_event e)) led_is ∙ mirror_answered l.width l.height n e (life_ledger l n es)
 
       pub image_ledger : event_booked h.width h.height n (mirror_event e) x ≡ mirrored (life_ledger l n (es ++ (e ∷ [])))
       image_ledger =

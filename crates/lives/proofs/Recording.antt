@@ -22,7 +22,7 @@ get_last (x ∷ es) e = get_last es e
 
 module _ (f g : Lattice → Lattice) (l : Lattice) (n : ℕ) where
   pub none_recorded : (old : List Seen) → Recorded f g l n [] old old
-  none_recorded old = record { count = refl; told = λ k e s k< is. absurd cc; others = λ k s past. refl }
+  none_recorded old = record { count = refl; replies = λ k e s k< is. absurd cc; others = λ k s past. refl }
 
   module _ (es : List Event) (e : Event) (old now : List Seen) (so_far : Recorded f g l n es old now) where
     len : length (es ++ (e ∷ [])) ≡ length es + 1
@@ -32,10 +32,10 @@ module _ (f g : Lattice → Lattice) (l : Lattice) (n : ℕ) where
     pub recorded_past : length now ≤ length es → Recorded f g l n (es ++ (e ∷ [])) old now
     recorded_past past = record {
       count = so_far.count;
-      told = λ k x s k< is.
+      replies = λ k x s k< is.
           let count = so_far.count in
           let before : k < length es = omega arith in
-          so_far.told k x s k< (sym (get_before es e k before) ∙ is) ∙ ap (λ t. seen_after f g l n t x) (sym (take-append-le k es (e ∷ []) (omega arith)));
+          so_far.replies k x s k< (sym (get_before es e k before) ∙ is) ∙ ap (λ t. seen_after f g l n t x) (sym (take-append-le k es (e ∷ []) (omega arith)));
       others = λ k s behind. let a = len in so_far.others k s (omega arith);
     }
 
@@ -43,7 +43,7 @@ module _ (f g : Lattice → Lattice) (l : Lattice) (n : ℕ) where
     pub recorded_here : length es < length now → Recorded f g l n (es ++ (e ∷ [])) old (set now (length es) (seen_after f g l n es e))
     recorded_here here = record {
       count = length-set now (length es) (seen_after f g l n es e) ∙ so_far.count;
-      told = λ k x s k< is. ⊎_elim (before k x s k< is) (at k x s k< is) (cases_lt k (length es));
+      replies = λ k x s k< is. ⊎_elim (before k x s k< is) (at k x s k< is) (cases_lt k (length es));
       others = λ k s behind.
           let a = len in
           get_or-set_other now (length es) k (seen_after f g l n es e) s (λ same. let b = ap (λ i. i) same in omega arith) ∙ so_far.others k s (omega arith);
@@ -52,7 +52,7 @@ module _ (f g : Lattice → Lattice) (l : Lattice) (n : ℕ) where
         before : (k : ℕ) (x : Event) (s : Seen) → k < length old → slice_get (es ++ (e ∷ [])) k ≡ Some x → k < length es → get_or (set now (length es) (seen_after f g l n es e)) k s ≡ seen_after f g l n (take k (es ++ (e ∷ []))) x
         before k x s k< is b =
             get_or-set_other now (length es) k (seen_after f g l n es e) s (λ same. let c = ap (λ i. i) same in omega arith)
-            ∙ so_far.told k x s k< (sym (get_before es e k b) ∙ is) ∙ ap (λ t. seen_after f g l n t x) (sym (take-append-le k es (e ∷ []) (omega arith)))
+            ∙ so_far.replies k x s k< (sym (get_before es e k b) ∙ is) ∙ ap (λ t. seen_after f g l n t x) (sym (take-append-le k es (e ∷ []) (omega arith)))
 
         at : (k : ℕ) (x : Event) (s : Seen) → k < length old → slice_get (es ++ (e ∷ [])) k ≡ Some x → length es ≤ k → get_or (set now (length es) (seen_after f g l n es e)) k s ≡ seen_after f g l n (take k (es ++ (e ∷ []))) x
         at k x s k< is b = ⊎_elim last past (cases_eq k (length es))

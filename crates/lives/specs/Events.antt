@@ -3,13 +3,13 @@
 --     is_part t                whether t lends bytes of `second`
 --     lent_cells w h n e       how many bytes the call of the event e gets as cells
 --     is_call w h n e led      whether e is a call of the life: the state permits it, and the cells that it needs, if any, are not w * h bytes of `second`
---     event_told w h n e led   the answer to e: PassedOver if it is no call of the life, and Given for Open and Close
+--     event_answered w h n e led   the answer to e: Skipped if it is no call of the life, and Given for Open and Close
 --     event_booked w h n e led     the ledger after e
 --     event_made f g n e led l     the lattice after e, if l is held before it; f and g are the two functions of the map
 use Rattle.std.specs.Prelude.{ℕ, ◌*◌, ◌==◌, ◌&&◌, Bool, true, false, not, min, if◌then◌else◌}
 use Rattle.any_bench.specs.Answers.{said}
 use Rattle.any_bench.specs.declared.answer.Answer.{Answer}
-use Rattle.any_bench.specs.declared.answer.Answer.TheVariants.{PassedOver, Given}
+use Rattle.any_bench.specs.declared.answer.Answer.TheVariants.{Skipped, Given}
 use Rattle.lattice.specs.Lattice.{Lattice}
 use Rattle.ledger.specs.Effects.{effect}
 use Rattle.ledger.specs.Ledgers.{Ledger}
@@ -34,8 +34,8 @@ lent_cells w h n e = lent_count (w * h) n e.lent
 abbrev pub is_call : ℕ → ℕ → ℕ → Event → Ledger → Bool
 is_call w h n e led = permits led.state (kind_of e.call) && not (takes_cells e.call && (is_part e.lent && lent_cells w h n e == w * h))
 
-abbrev pub event_told : ℕ → ℕ → ℕ → Event → Ledger → Answer
-event_told w h n e led = if is_call w h n e led then (if takes_cells e.call then said (answer w h (lent_cells w h n e) e.call led) else Given) else PassedOver
+abbrev pub event_answered : ℕ → ℕ → ℕ → Event → Ledger → Answer
+event_answered w h n e led = if is_call w h n e led then (if takes_cells e.call then said (answer w h (lent_cells w h n e) e.call led) else Given) else Skipped
 
 abbrev pub event_booked : ℕ → ℕ → ℕ → Event → Ledger → Ledger
 event_booked w h n e led = if is_call w h n e led then after w h (lent_cells w h n e) e.call led else led

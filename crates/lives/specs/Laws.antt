@@ -47,7 +47,7 @@ pub record Lived (f g : Lattice → Lattice) (s : Start) (es : List Event) (old 
   pub same : held o.mirror_start new.mirror.now ≡ held o.start new.cells.now
   pub opposite : o.mirror_counts ≡ opposite_clock o.counts
   -- after each event, bench and mirror report what their ledgers say, and that is the same except for the sign of the clock
-  pub told : Recorded f g (opening s old) (other old) es old.seen.now new.seen.now
+  pub replies : Recorded f g (opening s old) (other old) es old.seen.now new.seen.now
   pub alike : (k : ℕ) (e : Event) → (seen_after f g (opening s old) (other old) (take k es) e).mirror ≡ of_mirror (seen_after f g (opening s old) (other old) (take k es) e).bench
   -- the third bench makes every record of the reverse script and is back at the opening lattice then; its clock has the opposite sign
   pub way_back : GoesBack f g (opening s old) (life_ledger (opening s old) (other old) es) old.script.now new.script.now old.home.now new.home.now o.way_back

@@ -9,5 +9,5 @@ use Rattle.lives.specs.declared.event.Seen.{Seen}
 
 pub record Recorded (f g : Lattice → Lattice) (l : Lattice) (n : ℕ) (es : List Event) (old new : List Seen) : Type 0 where
   pub count : length new ≡ length old
-  pub told : (k : ℕ) (e : Event) (s : Seen) → k < length old → slice_get es k ≡ Some e → slice_index_or new k s ≡ seen_after f g l n (take k es) e
+  pub replies : (k : ℕ) (e : Event) (s : Seen) → k < length old → slice_get es k ≡ Some e → slice_index_or new k s ≡ seen_after f g l n (take k es) e
   pub others : (k : ℕ) (s : Seen) → length es ≤ k → slice_index_or new k s ≡ slice_index_or old k s

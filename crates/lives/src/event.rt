@@ -21,7 +21,7 @@ pub struct Event {
 
 /// What a bench reports of an event: the answer to its call, and the counts after it.
 #[derive(Clone, Copy, PartialEq, Eq, Debug)]
-pub struct Told {
+pub struct Reply {
     pub answer: Answer,
     pub counts: Counts,
 }
@@ -29,6 +29,6 @@ pub struct Told {
 /// What the bench and its mirror report of the same event.
 #[derive(Clone, Copy, PartialEq, Eq, Debug)]
 pub struct Seen {
-    pub bench: Told,
-    pub mirror: Told,
+    pub bench: Reply,
+    pub mirror: Reply,
 }

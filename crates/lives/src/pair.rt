@@ -57,14 +57,14 @@ pub(crate) fn make_events<'m, M: Map>(
     let (mut bench, mut image) = open_both(map, start);
     for k in 0..events.len() {
         let event = events[k];
-        let (next, told) = make_event(bench, event, cells, second);
-        let (next_image, mirror_told) = make_event(image, mirrored(event), mirror, second);
+        let (next, reply) = make_event(bench, event, cells, second);
+        let (next_image, mirror_reply) = make_event(image, mirrored(event), mirror, second);
         bench = next;
         image = next_image;
         if k < seen.len() {
             seen[k] = Seen {
-                bench: told,
-                mirror: mirror_told,
+                bench: reply,
+                mirror: mirror_reply,
             };
         }
     }

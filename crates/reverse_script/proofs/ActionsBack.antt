@@ -53,14 +53,14 @@ module _ (all left : List Action) (a : Action) (front : left ≡ take (length le
   more : home_script (drop (length (take (length left - 1) left)) all) ≡ home_script (drop (length left) all) ++ script_of (making (reversed a))
   more = ap home_script back ∙ home_text a (drop (length left) all)
 
-  module _ (m now new : List ℕ) (end behind : ℕ) (so_far : now ≡ put_at m 0 (home_script (drop (length left) all))) (place : end ≡ length (home_script (drop (length left) all)))
-      (here : new ≡ put_at now end (script_of (making (reversed a)))) (next : behind ≡ end + length (script_of (making (reversed a)))) where
-    pub action_behind : behind ≡ length (home_script (drop (length (take (length left - 1) left)) all))
-    action_behind =
+  module _ (m now new : List ℕ) (end after : ℕ) (so_far : now ≡ put_at m 0 (home_script (drop (length left) all))) (place : end ≡ length (home_script (drop (length left) all)))
+      (here : new ≡ put_at now end (script_of (making (reversed a)))) (next : after ≡ end + length (script_of (making (reversed a)))) where
+    pub action_after : after ≡ length (home_script (drop (length (take (length left - 1) left)) all))
+    action_after =
         let len = ap length more in
         let sum = length-append (home_script (drop (length left) all)) (script_of (making (reversed a))) in
         omega arith
 
-    pub action_put : behind ≤ length m → new ≡ put_at m 0 (home_script (drop (length (take (length left - 1) left)) all))
+    pub action_put : after ≤ length m → new ≡ put_at m 0 (home_script (drop (length (take (length left - 1) left)) all))
     action_put room =
         put_next m 0 (home_script (drop (length left) all)) (script_of (making (reversed a))) now new end so_far (omega (arith, place)) here (omega arith) ∙ ap (put_at m 0) (sym more)

@@ -33,13 +33,13 @@ module _ (flips left rest : List Flip) (last : Flip) (front : left ≡ take (len
   rest_back : drop (length rest) flips ≡ last ∷ drop (length left) flips
   rest_back = ap (drop (length rest)) all_split ∙ drop_at rest (last ∷ drop (length left) flips) (length rest) refl
 
-  module _ (m now new : List ℕ) (a end behind : ℕ) (r : Record) (is : r ≡ flip_record last) (so_far : now ≡ put_at m a (back_text (drop (length left) flips))) (place : end ≡ a + length (back_text (drop (length left) flips)))
-      (here : new ≡ put_at now end (written r)) (next : behind ≡ end + length (written r)) where
+  module _ (m now new : List ℕ) (a end after : ℕ) (r : Record) (is : r ≡ flip_record last) (so_far : now ≡ put_at m a (back_text (drop (length left) flips))) (place : end ≡ a + length (back_text (drop (length left) flips)))
+      (here : new ≡ put_at now end (written r)) (next : after ≡ end + length (written r)) where
     more : back_text (drop (length rest) flips) ≡ back_text (drop (length left) flips) ++ written r
     more = ap back_text rest_back ∙ back_cons last (drop (length left) flips) ∙ ap (λ x. back_text (drop (length left) flips) ++ written x) (sym is)
 
-    pub flip_behind : behind ≡ a + length (back_text (drop (length rest) flips))
-    flip_behind =
+    pub flip_after : after ≡ a + length (back_text (drop (length rest) flips))
+    flip_after =
         let len = ap length more in
         let sum = length-append (back_text (drop (length left) flips)) (written r) in
         omega arith

@@ -17,7 +17,7 @@ use scripts::write::write_record;
 fn put(record: Record, script: &mut [u8], at: usize) -> usize
     requires { at + length (written «record») ≤ length script.old }
     ensures memory { script.new ≡ put_at script.old at (written «record») }
-    ensures behind { result ≡ at + length (written «record») }
+    ensures after { result ≡ at + length (written «record») }
 {
     write_record(record, script, at).unwrap_or(at)
 }
@@ -47,7 +47,7 @@ fn record_of(flip: Flip) -> Record
 fn put_flips(flips: &[Flip], script: &mut [u8], at: usize) -> usize
     requires { at + 17 * length flips.now ≤ length script.old }
     ensures memory { script.new ≡ put_at script.old at (back_text flips.now) }
-    ensures behind { result ≡ at + length (back_text flips.now) }
+    ensures after { result ≡ at + length (back_text flips.now) }
     ensures short { result ≤ at + 17 * length flips.now }
 {
     let mut end = at;
@@ -64,7 +64,7 @@ fn put_flips(flips: &[Flip], script: &mut [u8], at: usize) -> usize
 fn put_session(flips: &[Flip], script: &mut [u8], at: usize) -> usize
     requires { at + 17 * length flips.now + 11 ≤ length script.old }
     ensures memory { script.new ≡ put_at script.old at (script_of (making (Edit (reverse flips.now)))) }
-    ensures behind { result ≡ at + length (script_of (making (Edit (reverse flips.now)))) }
+    ensures after { result ≡ at + length (script_of (making (Edit (reverse flips.now)))) }
     ensures short { result ≤ at + 17 * length flips.now + 11 }
 {
     let opened = put(Record::Open, script, at);
@@ -78,7 +78,7 @@ pub(crate) fn put_reversed(action: ActionRef<'_>, script: &mut [u8], at: usize) 
     requires known { IsKept (action_of action) }
     requires room { at + 28 * size (action_of action) ≤ length script.old }
     ensures memory { script.new ≡ put_at script.old at (script_of (making (reversed (action_of action.entry)))) }
-    ensures behind { result ≡ at + length (script_of (making (reversed (action_of action.entry)))) }
+    ensures after { result ≡ at + length (script_of (making (reversed (action_of action.entry)))) }
     ensures short { result ≤ at + 28 * size (action_of action.entry) }
 {
     match action {

@@ -8,8 +8,8 @@ use Rattle.actions.specs.Answers.{unless}
 use Rattle.actions.specs.Actions.{Action, Step, Edit}
 use Rattle.actions.specs.declared.flip.Flip.{Flip}
 use Rattle.any_bench.specs.Answers.{said}
-use Rattle.any_bench.specs.Scenes.{Scene, told_at, after_call}
-use Rattle.any_bench.specs.declared.answer.Answer.TheVariants.{PassedOver, Given, Refused}
+use Rattle.any_bench.specs.Scenes.{Scene, answered_at, after_call}
+use Rattle.any_bench.specs.declared.answer.Answer.TheVariants.{Skipped, Given, Refused}
 use Rattle.faults.specs.declared.run.BenchRefusal.{BenchRefusal}
 use Rattle.lattice.specs.Lattice.{Lattice, Whole, Within, SameShape}
 use Rattle.lattice.specs.Maps.{Reversible}
@@ -30,7 +30,7 @@ use Rattle.scripts.specs.declared.record.Record.TheVariants as Call
 use Rattle.scripts.specs.declared.state.State.TheVariants.{Rest, Session}
 
 -- a call that the state permits and to which no cause applies is not refused
-not_refused : (b t : Bool) (d : Option BenchRefusal) (n : ℕ) → b ≡ true → d ≡ None → (e : BenchRefusal) → cond b (cond t (said (unless d n)) Given) PassedOver ≡ Refused e → ⊥
+not_refused : (b t : Bool) (d : Option BenchRefusal) (n : ℕ) → b ≡ true → d ≡ None → (e : BenchRefusal) → cond b (cond t (said (unless d n)) Given) Skipped ≡ Refused e → ⊥
 not_refused false t d n may none e h = absurd cc
 not_refused true false d n may none e h = absurd cc
 not_refused true true None n may none e h = absurd cc
@@ -56,7 +56,7 @@ module _ (f g : Lattice → Lattice) (laws : Reversible f g) (l : Lattice) (insi
         ∙ ap (λ n. refusal l.width l.height n c led) (shape.count ∙ whole)
         ∙ whole_refusal l.width l.height c led ∙ own
 
-    pub taken : (e : BenchRefusal) → told_at c (at led) ≡ Refused e → ⊥
+    pub taken : (e : BenchRefusal) → answered_at c (at led) ≡ Refused e → ⊥
     taken e h = not_refused (permits led.state (kind_of c)) (takes_cells c) _ (length (booked c led).standing) may none e h
 
     pub moved_to : after_call f g c (at led) ≡ at (booked c led)

@@ -2,7 +2,7 @@
 --     Stands f g l s     the ledger of s is sound, and s holds what the ledger says, if l was the opening lattice
 use Rattle.std.proofs.Common.{◌≡◌, Bool, true, false, cond, List, [], ◌∷◌, length, Some, None, Option, refl, sym, ap, ap₂, ◌∙◌, subst}
 use Rattle.std.proofs.lemmas.Bool.{cond_both}
-use Rattle.any_bench.proofs.PassedOver.{at_test}
+use Rattle.any_bench.proofs.Skipped.{at_test}
 use Rattle.any_bench.specs.Calls.{booked_if, made_if}
 use Rattle.any_bench.specs.Scenes.{Scene, after_call, after_calls}
 use Rattle.faults.specs.declared.run.BenchRefusal.{BenchRefusal}

@@ -1,8 +1,8 @@
 -- Running record by record is making the records before the first refused one, one after another. Assumes nothing.
 use Rattle.std.proofs.Common.{◌≡◌, ℕ, suc, ◌+◌, List, [], ◌∷◌, Some, None, Option, Ok, Err, Result, length, refl, sym, ap, ◌∙◌, arith}
-use Rattle.any_bench.specs.Scenes.{Scene, told_at, after_call, after_calls}
+use Rattle.any_bench.specs.Scenes.{Scene, answered_at, after_call, after_calls}
 use Rattle.any_bench.specs.declared.answer.Answer.{Answer}
-use Rattle.any_bench.specs.declared.answer.Answer.TheVariants.{PassedOver, Given, Standing, Refused}
+use Rattle.any_bench.specs.declared.answer.Answer.TheVariants.{Skipped, Given, Standing, Refused}
 use Rattle.faults.specs.declared.run.BenchRefusal.{BenchRefusal}
 use Rattle.faults.specs.declared.run.RunFault.{RunFault}
 use Rattle.faults.specs.declared.run.RunFault.TheVariants.{Bench}
@@ -19,13 +19,13 @@ module _ (f g : Lattice → Lattice) where
   -- a is the answer to the first record
   one_ran : (a : Answer) (r : Record) (rs : List Record) (s t : Scene) (d : Option (ℕ × BenchRefusal)) → t ≡ after_calls f g (after_call f g r s) (made_of d rs) → unless_refused a t s ≡ after_calls f g s (made_of (here_or a d) (r ∷ rs))
   one_ran (Refused e) r rs s t d h = refl
-  one_ran PassedOver r rs s t d h = h ∙ sym (more_made d r rs s)
+  one_ran Skipped r rs s t d h = h ∙ sym (more_made d r rs s)
   one_ran Given r rs s t d h = h ∙ sym (more_made d r rs s)
   one_ran (Standing n) r rs s t d h = h ∙ sym (more_made d r rs s)
 
   pub ran_is : (s : Scene) (rs : List Record) → ran f g s rs ≡ after_calls f g s (made_of (first_refused f g s rs) rs)
   ran_is s [] = refl
-  ran_is s (r ∷ rs) = one_ran (told_at r s) r rs s (ran f g (after_call f g r s) rs) (first_refused f g (after_call f g r s) rs) (ran_is (after_call f g r s) rs)
+  ran_is s (r ∷ rs) = one_ran (answered_at r s) r rs s (ran f g (after_call f g r s) rs) (first_refused f g (after_call f g r s) rs) (ran_is (after_call f g r s) rs)
 
   -- k records were made before, and rs begins on line n
   later_answer : ℕ → ℕ → Option (ℕ × BenchRefusal) → List Record → Result ℕ RunFault
@@ -40,14 +40,14 @@ module _ (f g : Lattice → Lattice) where
   one_answered : (a : Answer) (n k : ℕ) (r : Record) (rs : List Record) (d : Option (ℕ × BenchRefusal)) (x : Result ℕ RunFault) → x ≡ later_answer (n + 1) (k + 1) d rs → answer_after a n x ≡ later_answer n k (here_or a d) (r ∷ rs)
   unfolding later_answer
   one_answered (Refused e) n k r rs d x h = let z : n ≡ n + 0 = omega arith in ap (λ m. Err (Bench e m)) z
-  one_answered PassedOver n k r rs d x h = h ∙ next_answer n k d r rs
+  one_answered Skipped n k r rs d x h = h ∙ next_answer n k d r rs
   one_answered Given n k r rs d x h = h ∙ next_answer n k d r rs
   one_answered (Standing j) n k r rs d x h = h ∙ next_answer n k d r rs
 
   later_is : (n k : ℕ) (s : Scene) (rs : List Record) → ran_answer f g n k s rs ≡ later_answer n k (first_refused f g s rs) rs
   unfolding later_answer
   later_is n k s [] = let e : k ≡ k + 0 = omega arith in ap Ok e
-  later_is n k s (r ∷ rs) = one_answered (told_at r s) n k r rs (first_refused f g (after_call f g r s) rs) (ran_answer f g (n + 1) (k + 1) (after_call f g r s) rs) (later_is (n + 1) (k + 1) (after_call f g r s) rs)
+  later_is n k s (r ∷ rs) = one_answered (answered_at r s) n k r rs (first_refused f g (after_call f g r s) rs) (ran_answer f g (n + 1) (k + 1) (after_call f g r s) rs) (later_is (n + 1) (k + 1) (after_call f g r s) rs)
 
   none_before : (n : ℕ) (d : Option (ℕ × BenchRefusal)) (rs : List Record) → later_answer n 0 d rs ≡ answer_of n d rs
   unfolding later_answer

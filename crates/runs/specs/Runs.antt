@@ -11,7 +11,7 @@
 --     run_of f g s a             s after running the records a; s as it was, if a is a fault
 --     run_scene f g s n bs       s after running bs: at rest, and without the flips of a session that a refusal cut short
 use Rattle.std.specs.Prelude.{ℕ, suc, ◌+◌, ◌*◌, ◌==◌, List, [], ◌∷◌, length, take, Option, Some, None, Result, Ok, Err, if◌then◌else◌}
-use Rattle.any_bench.specs.Scenes.{Scene, told_at, after_call, after_calls}
+use Rattle.any_bench.specs.Scenes.{Scene, answered_at, after_call, after_calls}
 use Rattle.any_bench.specs.declared.answer.Answer.{Answer}
 use Rattle.any_bench.specs.declared.answer.Answer.TheVariants.{Refused}
 use Rattle.faults.specs.Results.{◌>>=◌}
@@ -37,7 +37,7 @@ here_or _ later = one_later later
 
 abbrev pub first_refused : (Lattice → Lattice) → (Lattice → Lattice) → Scene → List Record → Option (ℕ × BenchRefusal)
 first_refused f g s [] = None
-first_refused f g s (r ∷ rs) = here_or (told_at r s) (first_refused f g (after_call f g r s) rs)
+first_refused f g s (r ∷ rs) = here_or (answered_at r s) (first_refused f g (after_call f g r s) rs)
 
 abbrev pub made_of : Option (ℕ × BenchRefusal) → List Record → List Record
 made_of None rs = rs

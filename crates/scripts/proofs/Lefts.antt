@@ -11,7 +11,7 @@ use Rattle.text.specs.Readers.{AtEnd, line_of, rest_of, fields_read_of}
 use Rattle.text.specs.declared.line.Line.{Line}
 use Rattle.text.specs.declared.reader.Reader.{Reader}
 use Rattle.scripts.specs.Judgements.{judged, records_from, in_front}
-use Rattle.scripts.specs.Reading.{reader_of, state_of, left_of, next_from, next_of, MovedBy, LeftBehind}
+use Rattle.scripts.specs.Reading.{reader_of, state_of, left_of, next_from, next_of, MovedBy, LeftAfter}
 use Rattle.scripts.specs.Records.{kind_of}
 use Rattle.scripts.specs.States.{after}
 use Rattle.scripts.specs.declared.record.Record.{Record}
@@ -63,21 +63,21 @@ record_left s n bs x some e =
     let here : judged s n (fields (first_line bs)) ≡ Ok x = some_was (judged s n (fields (first_line bs))) x (sym (ap (next_from s n) cut) ∙ e) in
     ap (records_from s n) cut ∙ ap (λ j. j >>= λ y. in_front y (records_from (after s (kind_of y)) (n + 1) (lines (below_first bs)))) here
 
-pub left_behind : (r : Records) (a : Result (Option Record) RecordFault) (s : Records) → a ≡ next_of r → MovedBy r a s → LeftBehind r a s
-left_behind r (Ok (Some x)) s is moved =
+pub left_after : (r : Records) (a : Result (Option Record) RecordFault) (s : Records) → a ≡ next_of r → MovedBy r a s → LeftAfter r a s
+left_after r (Ok (Some x)) s is moved =
     let left : left_of r ≡ in_front x (records_from (after (state_of r) (kind_of x)) (line_of (reader_of r) + 1) (lines (below_first (rest_of (reader_of r))))) = record_left (state_of r) (line_of (reader_of r)) (rest_of (reader_of r)) x moved.some (sym is) in
     let here : left_of s ≡ records_from (after (state_of r) (kind_of x)) (line_of (reader_of r) + 1) (lines (below_first (rest_of (reader_of r)))) =
     ap (λ q. records_from q (line_of (reader_of s)) (lines (rest_of (reader_of s)))) moved.state ∙ ap (λ k. records_from (after (state_of r) (kind_of x)) k (lines (rest_of (reader_of s)))) moved.line ∙ ap (λ bs. records_from (after (state_of r) (kind_of x)) (line_of (reader_of r) + 1) (lines bs)) moved.rest in
     left ∙ ap (in_front x) (sym here)
-left_behind r (Ok None) s is moved = none_left (state_of r) (line_of (reader_of r)) (lines (rest_of (reader_of r))) (sym is)
-left_behind r (Err e) s is moved = fault_left (state_of r) (line_of (reader_of r)) (lines (rest_of (reader_of r))) e (sym is)
+left_after r (Ok None) s is moved = none_left (state_of r) (line_of (reader_of r)) (lines (rest_of (reader_of r))) (sym is)
+left_after r (Err e) s is moved = fault_left (state_of r) (line_of (reader_of r)) (lines (rest_of (reader_of r))) e (sym is)
 
 -- one record more is counted
 counted_one : (k : ℕ) (x : Record) (a : Result (List Record) RecordFault) → (in_front x a >>= λ rs. Ok (k + length rs)) ≡ (a >>= λ rs. Ok (k + 1 + length rs))
 counted_one k x (Ok rs) = let n : k + length (x ∷ rs) ≡ k + 1 + length rs = omega arith in ap Ok n
 counted_one k x (Err e) = refl
 
-pub record_counted : (r : Records) (a : Result (Option Record) RecordFault) (o : Option Record) (s : Records) (k m : ℕ) → a ≡ Ok o → is_some o ≡ true → MovedBy r a s → LeftBehind r a s → k + length (rest_of (reader_of r)) ≤ m → (k + 1 + length (rest_of (reader_of s)) ≤ m) × ((left_of r >>= λ rs. Ok (k + length rs)) ≡ (left_of s >>= λ rs. Ok (k + 1 + length rs)))
+pub record_counted : (r : Records) (a : Result (Option Record) RecordFault) (o : Option Record) (s : Records) (k m : ℕ) → a ≡ Ok o → is_some o ≡ true → MovedBy r a s → LeftAfter r a s → k + length (rest_of (reader_of r)) ≤ m → (k + 1 + length (rest_of (reader_of s)) ≤ m) × ((left_of r >>= λ rs. Ok (k + length rs)) ≡ (left_of s >>= λ rs. Ok (k + 1 + length rs)))
 record_counted r (Err e) o s k m is some moved left room = absurd cc
 record_counted r (Ok None) o s k m is some moved left room = absurd cc
 record_counted r (Ok (Some x)) o s k m is some moved left room =

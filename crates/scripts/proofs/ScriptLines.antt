@@ -5,10 +5,10 @@ use Rattle.std.specs.List.{AllByRecursion, count_by}
 use Rattle.faults.proofs.Joined.{went_on}
 use Rattle.faults.specs.declared.record.RecordFault.{RecordFault}
 use Rattle.text.proofs.Cuts.{Free}
-use Rattle.text.proofs.EndedLines.{lines_of_joined, newlines_of_joined, fields_of_parted, ended_by_fields}
+use Rattle.text.proofs.EndedLines.{lines_of_joined, newlines_of_joined, fields_of_separated, ended_by_fields}
 use Rattle.text.proofs.FreeNumbers.{decimal_free, signed_free}
-use Rattle.text.proofs.LineFields.{no_tab, tabless, parted_free}
-use Rattle.text.specs.Lines.{is_newline, is_separator, lines, ended, parted, fields}
+use Rattle.text.proofs.LineFields.{no_tab, tabless, separated_free}
+use Rattle.text.specs.Lines.{is_newline, is_separator, lines, ended, separated, fields}
 use Rattle.scripts.proofs.Judged.{judged_written, judged_ok, IsRecord}
 use Rattle.scripts.specs.Judgements.{judged, end_of_text, records_from, in_front}
 use Rattle.scripts.specs.Records.{kind_of, fields_of, arguments_of, written, script_of, Writable}
@@ -41,14 +41,14 @@ arguments_free R.Close w = tt
 
 -- the line of a record
 abbrev pub content_of : Record → List ℕ
-content_of r = parted (fields_of r)
+content_of r = separated (fields_of r)
 
 pub fields_of_line : (r : Record) → Writable r → fields (content_of r) ≡ fields_of r
-fields_of_line r w = fields_of_parted (spelling (kind_of r)) (arguments_of r) (no_tab _ (spelling_free (kind_of r)), tabless (arguments_of r) (arguments_free r w))
+fields_of_line r w = fields_of_separated (spelling (kind_of r)) (arguments_of r) (no_tab _ (spelling_free (kind_of r)), tabless (arguments_of r) (arguments_free r w))
 
 lines_are_free : (rs : List Record) → AllByRecursion Writable rs → AllByRecursion (Free is_newline) (map content_of rs)
 lines_are_free [] w = tt
-lines_are_free (r ∷ rs) w = (parted_free (fields_of r) (spelling_free (kind_of r), arguments_free r w.0), lines_are_free rs w.1)
+lines_are_free (r ∷ rs) w = (separated_free (fields_of r) (spelling_free (kind_of r), arguments_free r w.0), lines_are_free rs w.1)
 
 pub script_of_lines : (rs : List Record) → script_of rs ≡ flat_map ended (map content_of rs)
 script_of_lines [] = refl

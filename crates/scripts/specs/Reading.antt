@@ -3,7 +3,7 @@
 --     left_of r                   the records that are left to read, or the first fault
 --     next_of r                   the result of asking r for the next record
 --     MovedBy r a s               with the result a, r becomes s
---     LeftBehind r a s            the result a and what is then left of s make up what was left of r
+--     LeftAfter r a s            the result a and what is then left of s make up what was left of r
 use Rattle.std.specs.Prelude.{◌≡◌, ℕ, ◌+◌, ◌<◌, length, List, [], ◌∷◌, Option, Some, None, Result, Ok, Err}
 use Rattle.faults.specs.Results.{◌>>=◌}
 use Rattle.faults.specs.declared.record.RecordFault.{RecordFault}
@@ -49,7 +49,7 @@ MovedBy r (Ok None) s = s ≡ r
 MovedBy r (Err e) s = s ≡ r
 
 -- what was left before, by the result and what is left then
-abbrev pub LeftBehind : Records → Result (Option Record) RecordFault → Records → Type 0
-LeftBehind r (Ok (Some x)) s = left_of r ≡ in_front x (left_of s)
-LeftBehind r (Ok None) s = left_of r ≡ Ok []
-LeftBehind r (Err e) s = left_of r ≡ Err e
+abbrev pub LeftAfter : Records → Result (Option Record) RecordFault → Records → Type 0
+LeftAfter r (Ok (Some x)) s = left_of r ≡ in_front x (left_of s)
+LeftAfter r (Ok None) s = left_of r ≡ Ok []
+LeftAfter r (Err e) s = left_of r ≡ Err e

@@ -7,7 +7,7 @@
 --     Writable r           each number of r has at most six digits
 use Rattle.std.specs.Prelude.{ℕ, ◌≤◌, List, [], ◌∷◌, ⊤, unsigned_abs, flat_map}
 use Rattle.std.specs.Fmt.{decimal, signed_decimal}
-use Rattle.text.specs.Lines.{ended, parted}
+use Rattle.text.specs.Lines.{ended, separated}
 use Rattle.text.specs.Numbers.{max_number}
 use Rattle.scripts.specs.Words.{spelling}
 use Rattle.scripts.specs.declared.word.Word.{Word}
@@ -37,7 +37,7 @@ abbrev pub fields_of : Record → List (List ℕ)
 fields_of r = spelling (kind_of r) ∷ arguments_of r
 
 abbrev pub written : Record → List ℕ
-written r = ended (parted (fields_of r))
+written r = ended (separated (fields_of r))
 
 abbrev pub script_of : List Record → List ℕ
 script_of rs = flat_map written rs

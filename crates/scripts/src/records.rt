@@ -68,7 +68,7 @@ pub struct Records<'t> {
 
 impl<'t> Records<'t> {
     ghost use Rattle.text.specs.Readers.{text_of, line_of, position_of};
-    ghost use Rattle.scripts.specs.Reading.{reader_of, state_of, left_of, next_of, MovedBy, LeftBehind};
+    ghost use Rattle.scripts.specs.Reading.{reader_of, state_of, left_of, next_of, MovedBy, LeftAfter};
     ghost use Rattle.scripts.specs.Laws.{Reads};
     ghost use Rattle.scripts.specs.declared.record.Record.{Record};
     ghost use Rattle.scripts.specs.declared.state.State.TheVariants.{Rest};
@@ -104,11 +104,11 @@ impl<'t> Records<'t> {
     }
 
     /// The next record, or the first fault of its line. At the end of the text, `None` at rest and a fault in session. Only a record is read past.
-    #[tactic(auto, using(crate::proofs::Lefts::left_behind))]
+    #[tactic(auto, using(crate::proofs::Lefts::left_after))]
     pub fn next_record(&mut self) -> Result<Option<Record>, RecordFault>
         ensures answer { result ≡ next_of self.old }
         ensures moved { MovedBy self.old result self.new }
-        ensures left { LeftBehind self.old result self.new }
+        ensures left { LeftAfter self.old result self.new }
     {
         self.take_record()
     }

@@ -8,7 +8,7 @@ use Rattle.std.proofs.lemmas.List.Splits.{join_with_byte-slice_split, length-sli
 use Rattle.std.specs.List.{position_or_len, AllByRecursion, slice_split, onto_first, count_by}
 use Rattle.text.proofs.Cuts.{Free, before_front, after_front, before_yes, after_yes, split_free, split_front}
 use Rattle.text.proofs.LinesLeft.{lines_cons}
-use Rattle.text.specs.Lines.{is_newline, first_line, below_first, lines, lines_of_pieces, ended, is_tab, fields, parted}
+use Rattle.text.specs.Lines.{is_newline, first_line, below_first, lines, lines_of_pieces, ended, is_tab, fields, separated}
 use Rattle.text.specs.Wholes.{finished}
 
 -- the last byte of a finished text that is not empty
@@ -96,9 +96,9 @@ pub lines_free : (bs : List ℕ) → AllByRecursion (Free is_newline) (lines bs)
 lines_free bs = of_pieces_free (slice_split is_newline bs) (pieces_free is_newline bs)
 
 -- fields that contain no tab are read back
-pub fields_of_parted : (f : List ℕ) (fs : List (List ℕ)) → AllByRecursion (Free is_tab) (f ∷ fs) → fields (parted (f ∷ fs)) ≡ f ∷ fs
-fields_of_parted f [] free = split_free is_tab f free.0
-fields_of_parted f (g ∷ fs) free = split_front is_tab f 9 (parted (g ∷ fs)) free.0 refl ∙ ap (λ x. f ∷ x) (fields_of_parted g fs free.1)
+pub fields_of_separated : (f : List ℕ) (fs : List (List ℕ)) → AllByRecursion (Free is_tab) (f ∷ fs) → fields (separated (f ∷ fs)) ≡ f ∷ fs
+fields_of_separated f [] free = split_free is_tab f free.0
+fields_of_separated f (g ∷ fs) free = split_front is_tab f 9 (separated (g ∷ fs)) free.0 refl ∙ ap (λ x. f ∷ x) (fields_of_separated g fs free.1)
 
 -- a line and its newline before a finished text
 finished_front : (f more : List ℕ) → finished more ≡ true → finished (f ++ (10 ∷ more)) ≡ true
@@ -122,8 +122,8 @@ finished_joined [] = refl
 finished_joined (l ∷ ls) = ap finished (append_assoc l (10 ∷ []) (flat_map ended ls)) ∙ finished_front l (flat_map ended ls) (finished_joined ls)
 
 -- a line and its newline, from its fields
-pub ended_by_fields : (l : List ℕ) (fs : List (List ℕ)) → fields l ≡ fs → ended l ≡ ended (parted fs)
-ended_by_fields l fs e = ap ended (sym (join_with_byte-slice_split 9 l) ∙ ap parted e)
+pub ended_by_fields : (l : List ℕ) (fs : List (List ℕ)) → fields l ≡ fs → ended l ≡ ended (separated fs)
+ended_by_fields l fs e = ap ended (sym (join_with_byte-slice_split 9 l) ∙ ap separated e)
 
 -- lines that more text follows are read back
 pub lines_of_front : (ls : List (List ℕ)) (more : List ℕ) → AllByRecursion (Free is_newline) ls → lines (flat_map ended ls ++ more) ≡ ls ++ lines more

@@ -4,7 +4,7 @@ use Rattle.std.proofs.lemmas.List.{append-nil}
 use Rattle.std.proofs.lemmas.List.Splits.{length-slice_split}
 use Rattle.std.specs.List.{AllByRecursion}
 use Rattle.text.proofs.Cuts.{Free, before_front, after_front, before_yes, after_yes, before_no, after_no, split_free, split_front}
-use Rattle.text.specs.Lines.{is_tab, is_newline, is_separator, first_line, below_first, line_end, fields, parted}
+use Rattle.text.specs.Lines.{is_tab, is_newline, is_separator, first_line, below_first, line_end, fields, separated}
 
 -- bytes with no separator among them contain neither a tab nor a newline
 pub no_tab : (bs : List ℕ) → Free is_separator bs → Free is_tab bs
@@ -70,7 +70,7 @@ free_append : (xs ys : List ℕ) → Free is_newline xs → Free is_newline ys �
 free_append [] ys x y = y
 free_append (b ∷ xs) ys x y = (x.0, free_append xs ys x.1 y)
 
-pub parted_free : (fs : List (List ℕ)) → AllByRecursion (Free is_separator) fs → Free is_newline (parted fs)
-parted_free [] free = tt
-parted_free (f ∷ []) free = no_newline f free.0
-parted_free (f ∷ g ∷ fs) free = free_append f (9 ∷ parted (g ∷ fs)) (no_newline f free.0) (refl, parted_free (g ∷ fs) free.1)
+pub separated_free : (fs : List (List ℕ)) → AllByRecursion (Free is_separator) fs → Free is_newline (separated fs)
+separated_free [] free = tt
+separated_free (f ∷ []) free = no_newline f free.0
+separated_free (f ∷ g ∷ fs) free = free_append f (9 ∷ separated (g ∷ fs)) (no_newline f free.0) (refl, separated_free (g ∷ fs) free.1)

@@ -6,7 +6,7 @@
 --     line_end bs                the bytes after its first line: the newline and all that follows, or none
 --     lines bs                   all lines of bs. The bytes after the last newline are a line too, unless there are none
 --     ended l                    the line l and its newline
---     parted fs                  the fields fs, separated by tabs
+--     separated fs                  the fields fs, separated by tabs
 --     fields l                   the fields of the line l. There is always one, and one more for each tab
 use Rattle.std.specs.Prelude.{ℕ, ◌==◌, ◌||◌, Bool, List, [], ◌∷◌, ◌++◌, if◌then◌else◌, length, drop}
 use Rattle.std.specs.List.{slice_split, before_first, after_first, join_with_byte}
@@ -44,5 +44,5 @@ fields l = slice_split is_tab l
 abbrev pub ended : List ℕ → List ℕ
 ended l = l ++ (10 ∷ [])
 
-abbrev pub parted : List (List ℕ) → List ℕ
-parted fs = join_with_byte 9 fs
+abbrev pub separated : List (List ℕ) → List ℕ
+separated fs = join_with_byte 9 fs

@@ -13,4 +13,4 @@ returns c =
     let rows = c.put_start-rows_at.result in
     let second : c.put_rows.new.memory ≡ put_at c.put.new.memory rows (rows_text (width_of s) (height_of s) cs) = search rules in
     let room : rows + height_of s * (2 * width_of s + 5) ≤ length m = search rules in
-    rw (c.height-height.ensures, c.width-width.ensures) (board_put s cs m c.put.new.memory c.put_rows.new.memory _ c.put_start-rows_at.new.line rows c.requires c.put_start-rows_at.ensures.memory c.put_start-rows_at.ensures.behind c.put.ensures.memory second room)
+    rw (c.height-height.ensures, c.width-width.ensures) (board_put s cs m c.put.new.memory c.put_rows.new.memory _ c.put_start-rows_at.new.line rows c.requires c.put_start-rows_at.ensures.memory c.put_start-rows_at.ensures.after c.put.ensures.memory second room)

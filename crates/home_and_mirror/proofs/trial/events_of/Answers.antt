@@ -1,7 +1,7 @@
 use Rattle.std.proofs.Common.{◌++◌, map, Ok, ◌∙◌, sym, ap, subst}
 use Rattle.std.proofs.lemmas.List.{take_rest}
 use Rattle.scripts.specs.Laws.{Reads}
-use Rattle.scripts.specs.Reading.{LeftBehind}
+use Rattle.scripts.specs.Reading.{LeftAfter}
 use Rattle.scripts.specs.declared.state.State.TheVariants.{Rest}
 use Rattle.home_and_mirror.proofs.EventsRead.{one_more, no_more, all_read}
 use Rattle.home_and_mirror.proofs.trial.events_of.Goals as goal
@@ -11,7 +11,7 @@ pub loop-events-preserved : goal.loop-events-preserved
 loop-events-preserved c all rs is rest =
     let r = c.loop-events.records in
     let s = c.next_record.new.self in
-    let left = subst (λ o. LeftBehind r (Ok o) s) c.in-Some.is c.in_ok-record.ensures.left in
+    let left = subst (λ o. LeftAfter r (Ok o) s) c.in-Some.is c.in_ok-record.ensures.left in
     one_more c.new-records.result r s c.loop-events.events.items c.in-Some.record c.loop-events.invariant left all rs is rest ∙ ap (λ es. es ++ map own_event rs) (sym c.in_ok-push.ensures.items)
 
 pub returns : goal.returns

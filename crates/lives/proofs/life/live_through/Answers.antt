@@ -7,7 +7,7 @@ use Rattle.ledger.proofs.Sound.{Sound}
 use Rattle.ledger.specs.Effects.{standing_for}
 use Rattle.ledger.specs.Ledgers.{counts}
 use Rattle.lives.proofs.LifeLaws.{life_sound}
-use Rattle.lives.proofs.MirrorLaws.{mirror_counts, mirror_holds, mirror_life, mirror_tells}
+use Rattle.lives.proofs.MirrorLaws.{mirror_counts, mirror_holds, mirror_life, mirror_replies}
 use Rattle.lives.proofs.WaysHome.{leads_home}
 use Rattle.lives.proofs.life.live_through.Goals as goal
 use Rattle.lives.specs.Lives.{life_ledger, life_lattice, opposite_clock}
@@ -63,8 +63,8 @@ returns g c =
       counted = counted;
       mirror_counted = mirrored ∙ ap (λ x. counts x (phase_of c.start-mirror_end.result)) (sym (mirror_life l n es));
       opposite = mirrored ∙ ap (λ h. counts (mirrored_ledger (life_ledger l n es)) h.phase) (image ∙ sym bench) ∙ mirror_counts (life_ledger l n es) (phase_of c.start-end.result) ∙ ap opposite_clock (sym counted);
-      told = subst (λ x. Recorded (F x.now) (G x.now) l n es m.seen.now c.make_events.new.seen) rev e.seen;
-      alike = λ k x. mirror_tells f b l n (take k es) x;
+      replies = subst (λ x. Recorded (F x.now) (G x.now) l n es m.seen.now c.make_events.new.seen) rev e.seen;
+      alike = λ k x. mirror_replies f b l n (take k es) x;
       way_back = subst (λ x. GoesBack f b l x m.script.now c.go_back-way_back.new.script m.home.now c.go_back-way_back.new.home c.go_back-way_back.result) e.ledger back;
       same_at = λ k. mirror_holds f b l n (take k es);
       home_at = λ k rests. leads_home f b laws l inside c.requires.0 (life_ledger l n (take k es)) (life_sound l n (take k es)) rests;

@@ -8,7 +8,7 @@ use Rattle.lives.proofs.Pairs.{life_whole}
 use Rattle.lives.proofs.Recording.{recorded_past, recorded_here}
 use Rattle.lives.proofs.pair.make_events.Goals as goal
 use Rattle.lives.proofs.pair.make_events.Goals.{then-k-seen, else-k-seen}
-use Rattle.lives.specs.Events.{event_told, event_booked, event_made}
+use Rattle.lives.specs.Events.{event_answered, event_booked, event_made}
 use Rattle.lives.specs.Mirrors.{bench_map}
 use Rattle.lives.specs.Seen.{Recorded}
 use Rattle.lives.specs.declared.event.Event.{Event}
@@ -64,10 +64,10 @@ loop-k-preserved g c =
     let image_made = t.cells ∙ ap₂ (λ a z. event_made (G (bench_map a)) (F (bench_map a)) z c.mirrored.result y p) i.1 size' ∙ ap (λ a. event_made (G m) (F m) n a y p) c.mirrored.ensures in
     let next = along_more (F m) (G m) (g.met.M.Map.laws m) l inside n es x h y p i.3 e _ _ _ _ booked made image_booked image_made in
     let P : List Event → Type 0 = λ z. Along (F m) (G m) l n z (any_ledger c.make_event.result.0) (any_handed c.make_event.result.0 c.make_event.new.cells) (any_ledger c.make_event-in-loop-k.result.0) (any_handed c.make_event-in-loop-k.result.0 c.make_event-in-loop-k.new.cells) in
-    let told : Seen = record { bench = c.make_event.result.1; mirror = c.make_event-in-loop-k.result.1 } in
-    let answer = r.answer ∙ ap (λ z. event_told h.width h.height z e x) size in
-    let image_answer = t.answer ∙ ap₂ (λ z a. event_told p.width p.height z a y) size' c.mirrored.ensures in
-    let both = seen_more (F m) (G m) (g.met.M.Map.laws m) l inside n es x h y p i.3 e _ _ _ _ booked made image_booked image_made told answer r.counts image_answer t.counts in
+    let reply : Seen = record { bench = c.make_event.result.1; mirror = c.make_event-in-loop-k.result.1 } in
+    let answer = r.answer ∙ ap (λ z. event_answered h.width h.height z e x) size in
+    let image_answer = t.answer ∙ ap₂ (λ z a. event_answered p.width p.height z a y) size' c.mirrored.ensures in
+    let both = seen_more (F m) (G m) (g.met.M.Map.laws m) l inside n es x h y p i.3 e _ _ _ _ booked made image_booked image_made reply answer r.counts image_answer t.counts in
     let more = sym (take_more c.args.events.now k d c.loop-k-test.true) in
     let len : length es ≡ k = length-take-le k c.args.events.now (omega (arith, c.loop-k-test.true)) in
     let kept : List Event → List Seen → Type 0 = λ z new. Recorded (F m) (G m) l n z c.args.seen.now new in

@@ -1,5 +1,5 @@
 use Rattle.std.proofs.Common.{arith}
-use Rattle.reverse_script.proofs.FlipsBack.{one_less, rest_front, flip_behind, flip_put}
+use Rattle.reverse_script.proofs.FlipsBack.{one_less, rest_front, flip_after, flip_put}
 use Rattle.reverse_script.proofs.put.put_flips.Goals as goal
 
 pub loop-last-preserved : goal.loop-last-preserved
@@ -13,9 +13,9 @@ loop-last-preserved c =
     let less = one_less flips left rest last i.0 i.1 split in
     let room = c.requires in
     let short = c.record_of.ensures.short in
-    let place = c.put-end.ensures.behind in
+    let place = c.put-end.ensures.after in
     let far = i.4 in
     let fewer = i.1 in
-    let put = flip_put flips left rest last i.0 i.1 split c.args.script.now c.loop-last.script c.put-end.new.script c.args.at c.loop-last.end c.put-end.result c.record_of.result c.record_of.ensures.is i.2 i.3 c.put-end.ensures.memory c.put-end.ensures.behind (omega arith) in
-    let behind = flip_behind flips left rest last i.0 i.1 split c.args.script.now c.loop-last.script c.put-end.new.script c.args.at c.loop-last.end c.put-end.result c.record_of.result c.record_of.ensures.is i.2 i.3 c.put-end.ensures.memory c.put-end.ensures.behind in
-    (rest_front flips left rest last i.0 i.1 split, omega arith, put, behind, omega arith)
+    let put = flip_put flips left rest last i.0 i.1 split c.args.script.now c.loop-last.script c.put-end.new.script c.args.at c.loop-last.end c.put-end.result c.record_of.result c.record_of.ensures.is i.2 i.3 c.put-end.ensures.memory c.put-end.ensures.after (omega arith) in
+    let after = flip_after flips left rest last i.0 i.1 split c.args.script.now c.loop-last.script c.put-end.new.script c.args.at c.loop-last.end c.put-end.result c.record_of.result c.record_of.ensures.is i.2 i.3 c.put-end.ensures.memory c.put-end.ensures.after in
+    (rest_front flips left rest last i.0 i.1 split, omega arith, put, after, omega arith)

@@ -7,7 +7,7 @@ use Rattle.journal.specs.Journals.{standing_of}
 use Rattle.ledger.proofs.Latest.{none_latest}
 use Rattle.ledger.specs.Homes.{home_script}
 use Rattle.ledger.specs.Ledgers.{entries}
-use Rattle.reverse_script.proofs.ActionsBack.{still_front, shorter, entries_split, kept, action_behind, action_put}
+use Rattle.reverse_script.proofs.ActionsBack.{still_front, shorter, entries_split, kept, action_after, action_put}
 use Rattle.reverse_script.proofs.write.put_all.Goals as goal
 use Rattle.text.specs.Puts.{put_at}
 
@@ -40,10 +40,10 @@ loop-action-preserved c =
     let short = c.put_reversed-end.ensures.short in
     let less = shorter all left a i.0 i.1 given in
     let m = c.args.script.now in
-    let behind = action_behind all left a i.0 i.1 given m c.loop-action.script c.put_reversed-end.new.script c.loop-action.end c.put_reversed-end.result i.2 i.3 c.put_reversed-end.ensures.memory c.put_reversed-end.ensures.behind in
-    let put = action_put all left a i.0 i.1 given m c.loop-action.script c.put_reversed-end.new.script c.loop-action.end c.put_reversed-end.result i.2 i.3 c.put_reversed-end.ensures.memory c.put_reversed-end.ensures.behind (omega arith) in
+    let after = action_after all left a i.0 i.1 given m c.loop-action.script c.put_reversed-end.new.script c.loop-action.end c.put_reversed-end.result i.2 i.3 c.put_reversed-end.ensures.memory c.put_reversed-end.ensures.after in
+    let put = action_put all left a i.0 i.1 given m c.loop-action.script c.put_reversed-end.new.script c.loop-action.end c.put_reversed-end.result i.2 i.3 c.put_reversed-end.ensures.memory c.put_reversed-end.ensures.after (omega arith) in
     let P : List Action → Type 0 = λ x. (x ≡ take (length x) all) × (length x ≤ length all) × (c.put_reversed-end.new.script ≡ put_at m 0 (home_script (drop (length x) all))) × (c.put_reversed-end.result ≡ length (home_script (drop (length x) all))) × (c.put_reversed-end.result + 28 * entries x ≤ 28 * entries all) in
-    subst P (sym c.in-Some.ensures.left) (still_front all left a i.0 i.1 given, omega arith, put, behind, omega arith)
+    subst P (sym c.in-Some.ensures.left) (still_front all left a i.0 i.1 given, omega arith, put, after, omega arith)
 
 pub returns-clause-memory : goal.returns-clause-memory
 returns-clause-memory c = c.loop-action.invariant.2 ∙ ap (λ n. put_at c.args.script.now 0 (home_script (drop n (standing_of c.args.journal.now)))) (none_latest (left_of c.loop-action.actions) c.in_default.ensures.given)

@@ -4,7 +4,7 @@ use Rattle.any_bench.specs.Calls.{made_if}
 use Rattle.any_bench.specs.Scenes.{scene_of}
 use Rattle.runs.proofs.RunSteps.{same_records, called, refused_by, taken_by, one_made, one_refused}
 use Rattle.runs.proofs.run.make_records.Goals as goal
-use Rattle.scripts.specs.Reading.{left_of, LeftBehind, MovedBy}
+use Rattle.scripts.specs.Reading.{left_of, LeftAfter, MovedBy}
 
 pub returns-in-Some-clause-scene : goal.returns-in-Some-clause-scene
 returns-in-Some-clause-scene g c rs is =
@@ -17,7 +17,7 @@ returns-in-Some-clause-scene g c rs is =
     let x = c.in-Ok-Some.record in
     let len = ap length (same_records (left_of c.args.records) rs c.requires.0 is c.requires.1) ∙ c.requires.2 in
     let now = i.1 rs is len in
-    let given = subst (λ o. LeftBehind c.loop-made.records (Ok o) c.next_record.new.self) c.in-Ok-Some.field-0-is c.in-Ok-Some.ensures.left in
+    let given = subst (λ o. LeftAfter c.loop-made.records (Ok o) c.next_record.new.self) c.in-Ok-Some.field-0-is c.in-Ok-Some.ensures.left in
     let moved = subst (λ o. MovedBy c.loop-made.records (Ok o) c.next_record.new.self) c.in-Ok-Some.field-0-is c.in-Ok-Some.ensures.moved in
     let cells = h.cells ∙ ap (λ m. made_if (F m) (G m) x (any_ledger b) (any_handed b c.loop-made.cells)) i.0 in
     let refused = refused_by c.call-answer.result.1 c.line-line.result c.in-Some.fault (sym c.fault_of.ensures ∙ c.in-Some.is) in
@@ -33,7 +33,7 @@ loop-made-preserved g c =
     let t = scene_of b c.loop-made.cells in
     let h = c.call-answer.ensures in
     let x = c.in-Ok-Some.record in
-    let given = subst (λ o. LeftBehind c.loop-made.records (Ok o) c.next_record.new.self) c.in-Ok-Some.field-0-is c.in-Ok-Some.ensures.left in
+    let given = subst (λ o. LeftAfter c.loop-made.records (Ok o) c.next_record.new.self) c.in-Ok-Some.field-0-is c.in-Ok-Some.ensures.left in
     let moved = subst (λ o. MovedBy c.loop-made.records (Ok o) c.next_record.new.self) c.in-Ok-Some.field-0-is c.in-Ok-Some.ensures.moved in
     let cells = h.cells ∙ ap (λ m. made_if (F m) (G m) x (any_ledger b) (any_handed b c.loop-made.cells)) i.0 in (
       h.map ∙ i.0,

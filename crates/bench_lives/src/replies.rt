@@ -5,7 +5,7 @@ use anyhow::Context;
 use faults::report::Report;
 use lattice::map::Map;
 use lattice::start::Start;
-use lives::event::{Event, Seen, Told};
+use lives::event::{Event, Seen, Reply};
 use lives::life::live;
 use lives::memories::Memories;
 use lives::outcome::{Journey, WayBack};
@@ -24,8 +24,8 @@ const SECOND: usize = 100;
 // Enough for any reverse script.
 const MAX_SCRIPT: usize = 7_168;
 
-const UNTOLD: Told = Told {
-    answer: Answer::PassedOver,
+const UNTOLD: Reply = Reply {
+    answer: Answer::Skipped,
     counts: (0, 0, 0, 0),
 };
 
@@ -35,8 +35,8 @@ const UNSEEN: Seen = Seen {
 };
 
 fn show_events(rt: &impl Print, events: &[Event], seen: &[Seen]) -> anyhow::Result<()> {
-    for (event, told) in events.iter().zip(seen) {
-        show_event(rt, *event, *told)?;
+    for (event, reply) in events.iter().zip(seen) {
+        show_event(rt, *event, *reply)?;
     }
     Ok(())
 }
@@ -75,7 +75,7 @@ fn show_way_back(
     Ok(())
 }
 
-pub(crate) fn tell<M: Map>(
+pub(crate) fn show_life<M: Map>(
     rt: &(impl Print + Alloc),
     name: &str,
     map: &M,
