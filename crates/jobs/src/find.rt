@@ -5,16 +5,18 @@ ghost use Rattle.lattice.specs.Starts.{height_of};
 ghost use Rattle.jobs.specs.Jobs.{board_in};
 ghost use Rattle.jobs.specs.Steps.{ScriptFound, BelowFound, JobFound};
 
-use crate::map_line::{FIRST_LINE, find_map};
+use crate::map_line::find_map;
 use crate::opening::Opening;
 use boards::check::check_board;
+use faults::line_number::LineNumber;
 use faults::record::RecordFault;
 use lattice::start::Start;
 use named_maps::named::NamedMap;
 use scripts::check::check;
 use text::whole::check_whole;
 
-pub(crate) const BOARD_LINE: u32 = 2;
+// Only the map line comes before the board.
+pub(crate) const LINES_BEFORE_BOARD: u32 = 1;
 
 // The text from this place on.
 pub(crate) fn below(text: &[u8], at: usize) -> &[u8]
@@ -30,7 +32,7 @@ fn find_board(text: &[u8], room: usize) -> Result<(Start, usize), RecordFault>
     ensures found { BoardFound (board_in room text.now) result }
     ensures inside { IfOk result (λ x. x.1 ≤ length text.now) }
 {
-    let (start, len) = check_board(text, BOARD_LINE)?;
+    let (start, len) = check_board(text, LineNumber::after(LINES_BEFORE_BOARD))?;
     if room < start.cell_count() {
         return Err(RecordFault::CellsTooShort);
     }
@@ -39,11 +41,11 @@ fn find_board(text: &[u8], room: usize) -> Result<(Start, usize), RecordFault>
 
 // Checks the script from this place on, and returns the number of its first line, which comes after the map line, the board's line and its rows.
 #[tactic(auto, using(crate::proofs::JobsFound::counted_fault, crate::proofs::JobsFound::counted))]
-fn find_script(text: &[u8], at: usize, start: &Start) -> Result<u32, RecordFault>
+fn find_script(text: &[u8], at: usize, start: &Start) -> Result<LineNumber, RecordFault>
     requires { at ≤ length text.now }
     ensures { ScriptFound (height_of start.now) (drop at text.now) result }
 {
-    let first_line = BOARD_LINE + 1 + start.height() as u32;
+    let first_line = LineNumber::after(LINES_BEFORE_BOARD + 1 + start.height() as u32);
     check(below(text, at), first_line)?;
     Ok(first_line)
 }
@@ -70,7 +72,7 @@ fn find_below(map: NamedMap, text: &[u8], at: usize, room: usize) -> Result<Open
 pub(crate) fn find_job(text: &[u8], room: usize) -> Result<(Opening, usize), RecordFault>
     ensures { JobFound room text.now result }
 {
-    check_whole(text, FIRST_LINE)?;
+    check_whole(text, LineNumber::first())?;
     let (map, board_at) = find_map(text)?;
     let opening = find_below(map, text, board_at, room)?;
     Ok((opening, board_at))

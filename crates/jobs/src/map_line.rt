@@ -4,14 +4,13 @@ ghost use Rattle.text.specs.FieldsOfLines.{HasFields, StandsFrom};
 ghost use Rattle.jobs.specs.Jobs.{map_at};
 ghost use Rattle.jobs.specs.Steps.{MapFound};
 
+use faults::line_number::LineNumber;
 use faults::record::RecordFault;
 use named_maps::named::NamedMap;
 use text::line::Line;
 use text::reader::Reader;
 
 const MAP: &[u8] = b"map";
-
-pub(crate) const FIRST_LINE: u32 = 1;
 
 // The map that the line names, or the first fault of the line.
 fn map_of(line: Line<'_>) -> Result<NamedMap, RecordFault>
@@ -32,10 +31,10 @@ fn map_of(line: Line<'_>) -> Result<NamedMap, RecordFault>
 pub(crate) fn find_map(text: &[u8]) -> Result<(NamedMap, usize), RecordFault>
     ensures { MapFound text.now result }
 {
-    let mut reader = Reader::new(text, FIRST_LINE);
+    let mut reader = Reader::new(text, LineNumber::first());
     let Some(line) = reader.next_line() else {
         return Err(RecordFault::MissingLine {
-            line: FIRST_LINE as usize,
+            line: LineNumber::first().number(),
         });
     };
     let map = map_of(line)?;

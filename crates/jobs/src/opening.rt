@@ -4,8 +4,9 @@ ghost use Rattle.jobs.specs.Answers.{Filled, Opens, JobOpened};
 ghost use Rattle.jobs.specs.Jobs.{Job, job};
 ghost use Rattle.jobs.specs.Laws.{IsJob};
 
-use crate::find::{BOARD_LINE, below, find_job};
+use crate::find::{LINES_BEFORE_BOARD, below, find_job};
 use boards::read::read_board;
+use faults::line_number::LineNumber;
 use faults::record::RecordFault;
 use lattice::start::Start;
 use named_maps::named::NamedMap;
@@ -17,8 +18,7 @@ pub struct Opening {
     pub start: Start,
     /// The place in the job's text, in bytes, where the script begins.
     pub script_at: usize,
-    /// The number of the script's first line; the map line is line 1.
-    pub script_line: u32,
+    pub script_line: LineNumber,
 }
 
 // Checks the whole job, and only then reads its board.
@@ -27,7 +27,11 @@ fn open_into(text: &[u8], cells: &mut [u8]) -> Result<Opening, RecordFault>
     ensures { JobOpened (job (length cells.old) text.now) text.now cells.old cells.new result }
 {
     let (opening, board_at) = find_job(text, cells.len())?;
-    read_board(below(text, board_at), BOARD_LINE, cells)?;
+    read_board(
+        below(text, board_at),
+        LineNumber::after(LINES_BEFORE_BOARD),
+        cells,
+    )?;
     Ok(opening)
 }
 

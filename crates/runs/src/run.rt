@@ -14,6 +14,7 @@ ghost use Rattle.text.specs.Readers.{line_of};
 use any_bench::answer::Answer;
 use any_bench::call::AnyBench;
 use bench::bench::Bench;
+use faults::line_number::LineNumber;
 use faults::run::RunFault;
 use lattice::map::Map;
 use scripts::records::Records;
@@ -79,7 +80,7 @@ pub fn run<'m, M: Map>(
     bench: Bench<'m, M>,
     cells: &mut [u8],
     text: &[u8],
-    first_line: u32,
+    first_line: LineNumber,
 ) -> (Bench<'m, M>, Result<usize, RunFault>)
     ensures answer { result.1 ≡ run_answer (M.forward (map_of bench.entry)) (M.backward (map_of bench.entry)) (rest_scene bench.entry cells.old) first_line text.now }
     ensures scene { rest_scene result.0 cells.new ≡ run_scene (M.forward (map_of bench.entry)) (M.backward (map_of bench.entry)) (rest_scene bench.entry cells.old) first_line text.now }
@@ -96,7 +97,7 @@ fn run_records<'m, M: Map>(
     bench: Bench<'m, M>,
     cells: &mut [u8],
     text: &[u8],
-    first_line: u32,
+    first_line: LineNumber,
     count: usize,
 ) -> (Bench<'m, M>, Result<usize, RunFault>)
     requires { count_of (script first_line text.now) ≡ Ok count }
