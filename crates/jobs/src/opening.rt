@@ -18,6 +18,7 @@ pub struct Opening {
     pub start: Start,
     /// The place in the job's text, in bytes, where the script begins.
     pub script_at: usize,
+    /// The number of the script's first line; the map line is line 1.
     pub script_line: LineNumber,
 }
 

@@ -10,10 +10,10 @@ put_two m a xs ys room =
     let both : length (take a m ++ xs) ≡ a + length xs = omega (arith, length-append (take a m) xs, front) in
     let same : put_at m a xs ≡ (take a m ++ xs) ++ drop (a + length xs) m = sym (append_assoc (take a m) xs (drop (a + length xs) m)) in
     let before : take (a + length xs) (put_at m a xs) ≡ take a m ++ xs = ap (take (a + length xs)) same ∙ take_at (take a m ++ xs) (drop (a + length xs) m) (a + length xs) both in
-    let after : drop (a + length xs) (put_at m a xs) ≡ drop (a + length xs) m = ap (drop (a + length xs)) same ∙ drop_at (take a m ++ xs) (drop (a + length xs) m) (a + length xs) both in
-    let behind : drop (a + length xs + length ys) (put_at m a xs) ≡ drop (a + length xs + length ys) m = sym (drop-drop (length ys) (a + length xs) (put_at m a xs)) ∙ ap (drop (length ys)) after ∙ drop-drop (length ys) (a + length xs) m in
+    let rest : drop (a + length xs) (put_at m a xs) ≡ drop (a + length xs) m = ap (drop (a + length xs)) same ∙ drop_at (take a m ++ xs) (drop (a + length xs) m) (a + length xs) both in
+    let after : drop (a + length xs + length ys) (put_at m a xs) ≡ drop (a + length xs + length ys) m = sym (drop-drop (length ys) (a + length xs) (put_at m a xs)) ∙ ap (drop (length ys)) rest ∙ drop-drop (length ys) (a + length xs) m in
     let place : a + length xs + length ys ≡ a + length (xs ++ ys) = omega (arith, length-append xs ys) in
-    ap (λ x. x ++ (ys ++ drop (a + length xs + length ys) (put_at m a xs))) before ∙ ap (λ x. (take a m ++ xs) ++ (ys ++ x)) behind ∙ append_assoc (take a m) xs (ys ++ drop (a + length xs + length ys) m)
+    ap (λ x. x ++ (ys ++ drop (a + length xs + length ys) (put_at m a xs))) before ∙ ap (λ x. (take a m ++ xs) ++ (ys ++ x)) after ∙ append_assoc (take a m) xs (ys ++ drop (a + length xs + length ys) m)
     ∙ ap (λ x. take a m ++ x) (sym (append_assoc xs ys (drop (a + length xs + length ys) m))) ∙ ap (λ k. take a m ++ ((xs ++ ys) ++ drop k m)) place
 
 -- a piece written after those that were written before
@@ -23,10 +23,10 @@ put_next m a xs ys now new end before place here room = here ∙ ap (λ x. put_a
 -- pieces one after another, from the beginning of m on
 pub record Written (m xs now : List ℕ) (end : ℕ) : Type 0 where
   pub memory : now ≡ put_at m 0 xs
-  pub behind : end ≡ length xs
+  pub after : end ≡ length xs
 
-pub piece : (m xs ys now new : List ℕ) (end behind : ℕ) → Written m xs now end → new ≡ put_at now end ys → behind ≡ end + length ys → length xs + length ys ≤ length m → Written m (xs ++ ys) new behind
-piece m xs ys now new end behind w here is room = record {
-  memory = put_next m 0 xs ys now new end w.memory (omega (arith, w.behind)) here (omega (arith, room));
-  behind = omega (arith, w.behind, is, length-append xs ys);
+pub piece : (m xs ys now new : List ℕ) (end after : ℕ) → Written m xs now end → new ≡ put_at now end ys → after ≡ end + length ys → length xs + length ys ≤ length m → Written m (xs ++ ys) new after
+piece m xs ys now new end after w here is room = record {
+  memory = put_next m 0 xs ys now new end w.memory (omega (arith, w.after)) here (omega (arith, room));
+  after = omega (arith, w.after, is, length-append xs ys);
 }
