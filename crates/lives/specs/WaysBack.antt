@@ -1,9 +1,9 @@
 -- The way back from where a life has led. It began with the lattice l, and its ledger is led; f and g are the two functions of the map.
 --     begun f g l led                                    a third bench, just opened on the lattice that is held
 --     gone f g l led                                     what it holds after the reverse script was run on it
---     ComesHome l led a m c                              a run of the reverse script that answers a, ends on the lattice m and leaves the counts c, made all records,
---                                                        as many as the script has lines, and came back to the opening lattice, with the opposite clock
---     LeadsHome f g l led                                so does the run on the third bench, and it rests afterwards, with no flip of a session
+--     ComesHome l led a m c                              a run of the reverse script that returns a and ends on the lattice m, with the counts c, has made all records, one
+--                                                        on each line, and has come back to the opening lattice, with the opposite clock
+--     LeadsHome f g l led                                so has the run on the third bench, which rests afterwards, with no flip of a session
 --     Home f g l led old new cells j                     j is the way back; the memory of the script goes from `old` to `new`, and the third bench comes to hold `cells`
 --     GoesBack f g l led script script' home home' w     w is the way back, or why there is none: the memory of the script goes from `script` to script', and the cells
 --                                                        memory of the third bench from `home` to home'
