@@ -76,7 +76,7 @@ pub fn read_board(
     ensures written { (l : Lattice) → BeginsWith l text.now → BoardRead (Ok l) cells.old cells.new result }
     // what is written of a board that was read are the bytes that were read
     ensures bytes { IfOk result (λ x. take x.1 text.now ≡ board_text (held x.0 (take (width_of x.0 * height_of x.0) cells.new))) }
-    // a fault is the first one, and the first one is the fault
+    // a fault is reported exactly where it is the first one
     ensures first { (e : RecordFault) → (result ≡ Err e) ↔ ReadFault first_line (length cells.old) text.now e }
 {
     read_into(text, first_line, cells)
