@@ -1,8 +1,8 @@
--- The fault of a board is the first that there is, and the first that there is is the fault. Assumes nothing.
-use Rattle.std.proofs.Common.{◌≡◌, ℕ, suc, zero, ◌+◌, ◌-◌, ◌<◌, ◌≤◌, true, List, [], ◌∷◌, ◌++◌, length, drop, map, flat_map, Ok, Err, arith, refl, sym, ◌∙◌, ap, subst, inl, inr, ◌⊎◌}
+-- A fault of a board is the first that there is, and what is the first is reported. Assumes nothing.
+use Rattle.std.proofs.Common.{◌≡◌, ℕ, suc, zero, ◌+◌, ◌-◌, ◌<◌, ◌≤◌, true, false, List, [], ◌∷◌, ◌++◌, length, drop, map, flat_map, Ok, Err, arith, refl, sym, ◌∙◌, ap, subst, inl, inr, ◌⊎◌}
 use Rattle.std.proofs.lemmas.Bool.{lt-leb, le-leb}
 use Rattle.std.proofs.lemmas.List.{append-nil, drop-drop, drop_at, length-map}
-use Rattle.std.specs.List.{AllByRecursion}
+use Rattle.std.specs.List.{AllByRecursion, count_by}
 use Rattle.faults.proofs.Joined.{went_on}
 use Rattle.faults.specs.Results.{◌>>=◌}
 use Rattle.faults.specs.declared.record.RecordFault.{RecordFault}
@@ -95,7 +95,7 @@ fault_of_lines n bs e ends is = elim (went_wrong (on_first start_at n (lines bs)
 ]
 
 -- a fault that no line has is not found on one
-next_has_none : (F : ℕ → List (List ℕ) → RecordFault → Type 0) (n : ℕ) (bs : List ℕ) (e : RecordFault) → ((i : ℕ) → e ≡ MissingLine i → ⊥) → ((fs : List (List ℕ)) → F n fs e → ⊥) → NextFault F n bs e → ⊥
+pub next_has_none : (F : ℕ → List (List ℕ) → RecordFault → Type 0) (n : ℕ) (bs : List ℕ) (e : RecordFault) → ((i : ℕ) → e ≡ MissingLine i → ⊥) → ((fs : List (List ℕ)) → F n fs e → ⊥) → NextFault F n bs e → ⊥
 next_has_none F n [] e not_missing none f = not_missing n f
 next_has_none F n (b ∷ bs) e not_missing none f = none _ f
 
@@ -168,8 +168,14 @@ lines_refused : (n : ℕ) (bs : List ℕ) (e : RecordFault) → (NextFault Board
 lines_refused n bs e (inl f) = ap (λ a. a >>= λ s. rows_from s.width s.height (n + 1) (drop 1 (lines bs)) >>= λ cs. Ok (with_cells s cs)) (next_refused start_at BoardLineFault n bs e (λ fs some wrong. start_line_refused n fs e some wrong) f)
 lines_refused n bs e (inr f) = row_missed n bs e f
 
+pub too_long : (n : ℕ) (bs : List ℕ) → max_text < length bs → whole n bs ≡ Err TooLong
+too_long n bs long = rw (lt-leb (length bs) max_text long) refl
+
+pub unfinished : (n i : ℕ) (bs : List ℕ) → length bs ≤ max_text → finished bs ≡ false → i ≡ n + count_by is_newline bs → whole n bs ≡ Err (Unfinished i)
+unfinished n i bs short ends is = rw (le-leb (length bs) max_text short, ends) (ap (λ j. Err (Unfinished j)) (sym is))
+
 pub board_refused : (n : ℕ) (bs : List ℕ) (e : RecordFault) → BoardFault n bs e → board n bs ≡ Err e
 unfolding board
-board_refused n bs TooLong f = rw (lt-leb (length bs) max_text f) refl
-board_refused n bs (Unfinished i) f = rw (le-leb (length bs) max_text f.0, f.1) (ap (λ j. Err (Unfinished j)) (sym f.2))
+board_refused n bs TooLong f = ap (λ a. a >>= λ _. board_from n (lines bs)) (too_long n bs f)
+board_refused n bs (Unfinished i) f = ap (λ a. a >>= λ _. board_from n (lines bs)) (unfinished n i bs f.0 f.1 f.2)
 board_refused n bs e f = ap (λ a. a >>= λ _. board_from n (lines bs)) (whole_passes n bs f.0 f.1) ∙ lines_refused n bs e f.2

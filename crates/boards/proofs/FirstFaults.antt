@@ -51,7 +51,7 @@ found_first n bs r e found = (
 )
 
 -- a memory that is too short
-no_room : (n : ℕ) (bs : List ℕ) → BoardFault n bs CellsTooShort → ⊥
+pub no_room : (n : ℕ) (bs : List ℕ) → BoardFault n bs CellsTooShort → ⊥
 no_room n bs f = lines_have_none n bs CellsTooShort (λ i x. cc) (λ fs x. x.1) (λ w m fs x. x.1) f.2
 
 kept : (n k : ℕ) (bs : List ℕ) (e : RecordFault) → BoardFault n bs e → ReadFault n k bs e

@@ -140,25 +140,32 @@ module _ (n : ℕ) (v a b c : List ℕ) where
     | inr x ↦ second_fault x.0 e (number_was n 2 x.0 a x.1) x.2
   ]
 
-  -- the other way round
-  abbrev refused_at : ℕ → Type 0
-  refused_at k = numbers_at n a b c ≡ Err (Field (NotANumber (record { line = n; field = k })))
+-- the other way round, whatever is asked of the three numbers
+module _ {B : Type 0} (n : ℕ) (v a b c : List ℕ) (g : ℕ → ℕ → ℕ → Result B RecordFault) where
+  abbrev three_numbers : Result B RecordFault
+  three_numbers = number_at n 2 a >>= λ x. number_at n 3 b >>= λ y. number_at n 4 c >>= λ z. g x y z
 
-  at_two : FirstNoNumber line 2 → refused_at 2
+  abbrev refused_at : ℕ → Type 0
+  refused_at k = three_numbers ≡ Err (Field (NotANumber (record { line = n; field = k })))
+
+  abbrev is_first : ℕ → Type 0
+  is_first k = FirstNoNumber (v ∷ a ∷ b ∷ c ∷ []) k
+
+  at_two : is_first 2 → refused_at 2
   at_two f = rw (not_number n 2 a f.here) refl
 
-  at_three : FirstNoNumber line 3 → refused_at 3
+  at_three : is_first 3 → refused_at 3
   at_three f = let x : IsNumber a = f.before 2 (omega arith) (omega arith) in rw (is_number n 2 x.0 a x.1, not_number n 3 b f.here) refl
 
-  at_four : FirstNoNumber line 4 → refused_at 4
+  at_four : is_first 4 → refused_at 4
   at_four f =
       let x : IsNumber a = f.before 2 (omega arith) (omega arith) in
       let y : IsNumber b = f.before 3 (omega arith) (omega arith) in
       rw (is_number n 2 x.0 a x.1, is_number n 3 y.0 b y.1, not_number n 4 c f.here) refl
 
-  number_refused : (k : ℕ) → FirstNoNumber line k → refused_at k
+  pub number_refused : (k : ℕ) → is_first k → refused_at k
   number_refused k f =
-      let P : ℕ → Type 0 = λ j. FirstNoNumber line j → refused_at j in
+      let P : ℕ → Type 0 = λ j. is_first j → refused_at j in
       let low : 2 ≤ k = f.argument in
       let high : k ≤ 4 = f.inside in
       elim (cases_lt k 3) [
@@ -166,11 +173,12 @@ module _ (n : ℕ) (v a b c : List ℕ) where
         | inr more ↦ elim (cases_lt k 4) [ inl three ↦ let is : 3 ≡ k = omega arith in subst P is at_three f | inr four ↦ let is : 4 ≡ k = omega arith in subst P is at_four f ]
       ]
 
-  start_refused : (x : StartRefusal) → NoStart line x → numbers_at n a b c ≡ Err (Start x n)
+module _ (n : ℕ) (v a b c : List ℕ) where
+  start_refused : (x : StartRefusal) → NoStart (v ∷ a ∷ b ∷ c ∷ []) x → numbers_at n a b c ≡ Err (Start x n)
   start_refused x s = rw (is_number n 2 s.width a s.is_width, is_number n 3 s.height b s.is_height, is_number n 4 s.phase c s.is_phase, start_is_refused s.width s.height s.phase x s.refused) refl
 
-  pub numbers_refused : (e : RecordFault) → NumbersFault n line e → numbers_at n a b c ≡ Err e
-  numbers_refused (Field (NotANumber p)) f = number_refused p.field f.1 ∙ ap (λ i. Err (Field (NotANumber (record { line = i; field = p.field })))) (sym f.0)
+  pub numbers_refused : (e : RecordFault) → NumbersFault n (v ∷ a ∷ b ∷ c ∷ []) e → numbers_at n a b c ≡ Err e
+  numbers_refused (Field (NotANumber p)) f = number_refused n v a b c (sides_at n) p.field f.1 ∙ ap (λ i. Err (Field (NotANumber (record { line = i; field = p.field })))) (sym f.0)
   numbers_refused (Start x i) f = start_refused x f.1 ∙ ap (λ j. Err (Start x j)) (sym f.0)
   numbers_refused e f = absurd f
 

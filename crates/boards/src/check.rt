@@ -60,7 +60,7 @@ pub fn check_board(text: &[u8], first_line: LineNumber) -> Result<(Start, usize)
     ensures written { (l : Lattice) → BeginsWith l text.now → BoardFound (Ok l) result }
     // what is found is a board within the limits, and it is written as the bytes that were read
     ensures bytes { IfOk result (λ x. (cells : List ℕ) × BeginsWith (held x.0 cells) text.now × (take x.1 text.now ≡ board_text (held x.0 cells))) }
-    // a fault is the first one, and the first one is the fault
+    // a fault is reported exactly where it is the first one
     ensures first { (e : RecordFault) → (result ≡ Err e) ↔ BoardFault first_line text.now e }
     // no line before the first has a fault
     ensures lines { IfErr result (λ e. NamesLineFrom first_line e) }

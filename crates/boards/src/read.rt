@@ -82,7 +82,7 @@ pub fn read_board(
     ensures written { (l : Lattice) → BeginsWith l text.now → BoardRead (Ok l) cells.old cells.new result }
     // a board that was read is written as the bytes that it was read from
     ensures bytes { IfOk result (λ x. take x.1 text.now ≡ board_text (held x.0 (take (width_of x.0 * height_of x.0) cells.new))) }
-    // a fault is the first one, and the first one is the fault
+    // a fault is reported exactly where it is the first one
     ensures first { (e : RecordFault) → (result ≡ Err e) ↔ ReadFault first_line (length cells.old) text.now e }
     // no line before the first has a fault
     ensures lines { IfErr result (λ e. NamesLineFrom first_line e) }

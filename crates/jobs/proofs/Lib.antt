@@ -1,9 +1,14 @@
 pub mod BoardsFound
+pub mod FirstFaults
+pub mod JobFaults
 pub mod JobLaws
 pub mod JobParts
 pub mod JobsFound
 pub mod JobsMade
 pub mod JobsRun
 pub mod JobsStand
+pub mod MapLineFaults
 pub mod MapLineLaws
 pub mod MapLines
+pub mod RecordRefused
+pub mod ScriptRefused

@@ -29,7 +29,7 @@ found : (p : NamedMap → Bool) (xs : List NamedMap) (m : NamedMap) → find p x
 found p [] m is = absurd cc
 found p (x ∷ xs) m is = found_at p x xs m (p x) refl (found p xs m) is
 
-name_was : (bs : List ℕ) (m : NamedMap) → map_named bs ≡ Some m → bs ≡ name_of m
+pub name_was : (bs : List ℕ) (m : NamedMap) → map_named bs ≡ Some m → bs ≡ name_of m
 name_was bs m is = (bytes_eq-Decides bs (name_of m)).0 (found (λ n. bytes_eq bs (name_of n)) all_maps m is)
 
 -- the fields of a map line that is read

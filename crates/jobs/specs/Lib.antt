@@ -1,4 +1,5 @@
 pub mod Answers
+pub mod Faults
 pub mod Jobs
 pub mod Laws
 pub mod Outcomes

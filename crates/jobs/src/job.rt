@@ -1,6 +1,8 @@
 //! Running a job.
-ghost use Rattle.std.specs.Prelude.{◌≡◌, ◌≤◌, length};
+ghost use Rattle.std.specs.Prelude.{◌≡◌, ◌≤◌, ◌↔◌, length, Err};
+ghost use Rattle.faults.specs.declared.run.RunFault.{RunFault};
 ghost use Rattle.jobs.specs.Answers.{Opens, JobRun, JobMade};
+ghost use Rattle.jobs.specs.Faults.{JobRunFault};
 ghost use Rattle.jobs.specs.Jobs.{Job, job};
 ghost use Rattle.jobs.specs.Laws.{IsJob, StandsOn};
 ghost use Rattle.jobs.specs.Steps.{OpenedOn};
@@ -46,6 +48,8 @@ pub fn run_job(text: &[u8], cells: &mut [u8]) -> Result<Done, RunFault>
     ensures answer { JobRun (job (length cells.old) text.now) cells.old cells.new result }
     // in the end the job's board is held, changed by the actions that stand, and no session is open
     ensures held { (j : Job) → IsJob j text.now → length j.lattice.cells ≤ length cells.old → StandsOn j cells.old cells.new result }
+    // a fault is reported exactly where it is the first one
+    ensures first { (e : RunFault) → (result ≡ Err e) ↔ JobRunFault (length cells.old) text.now e }
 {
     run_opened(text, cells)
 }

@@ -1,6 +1,8 @@
 //! Opening a job: checking all of it, and reading its board.
-ghost use Rattle.std.specs.Prelude.{◌≤◌, length, Ok, IfOk};
+ghost use Rattle.std.specs.Prelude.{◌≡◌, ◌≤◌, ◌↔◌, length, Ok, Err, IfOk};
+ghost use Rattle.faults.specs.declared.record.RecordFault.{RecordFault};
 ghost use Rattle.jobs.specs.Answers.{Filled, Opens, JobOpened};
+ghost use Rattle.jobs.specs.Faults.{JobFault};
 ghost use Rattle.jobs.specs.Jobs.{Job, job};
 ghost use Rattle.jobs.specs.Laws.{IsJob};
 
@@ -45,6 +47,8 @@ pub fn open_job(text: &[u8], cells: &mut [u8]) -> Result<Opening, RecordFault>
     ensures written { (j : Job) → IsJob j text.now → length j.lattice.cells ≤ length cells.old → JobOpened (Ok j) text.now cells.old cells.new result }
     // nothing is opened but the text of a job, byte for byte
     ensures only { IfOk result (λ o. (j : Job) × IsJob j text.now × Opens j text.now o × Filled j.lattice.cells cells.old cells.new) }
+    // a fault is reported exactly where it is the first one
+    ensures first { (e : RecordFault) → (result ≡ Err e) ↔ JobFault (length cells.old) text.now e }
 {
     open_into(text, cells)
 }
