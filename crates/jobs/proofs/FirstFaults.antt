@@ -11,7 +11,7 @@ use Rattle.jobs.proofs.JobFaults.{job_fault, job_refused}
 use Rattle.jobs.proofs.JobLaws.{job_was, job_written}
 use Rattle.jobs.proofs.JobParts.{job_parts}
 use Rattle.jobs.proofs.RecordRefused.{Split, split, joined, answer_was}
-use Rattle.jobs.specs.Answers.{JobOpened, JobTold, JobRun}
+use Rattle.jobs.specs.Answers.{JobOpened, JobAnswered, JobRun}
 use Rattle.jobs.specs.Faults.{JobFault, RefusedRecord, JobRunFault}
 use Rattle.jobs.specs.Jobs.{Job, script_line, job}
 use Rattle.jobs.specs.Outcomes.{first_scene, answer}
@@ -43,9 +43,9 @@ never_of_text n (Some p) rs e is = cc (is)
 
 stopped : (k : ℕ) (bs : List ℕ) (j : Job) (e : RunFault) → job k bs ≡ Ok j → answer j ≡ Err e → JobRunFault k bs e
 unfolding JobRunFault
-stopped k bs j (OfRecord e) is told = absurd (never_of_text (script_line j.lattice) (refused_in j j.records) j.records e told)
-stopped k bs j (Bench c i) is told =
-    let a = answer_was (script_line j.lattice) (refused_in j j.records) j.records c i told in
+stopped k bs j (OfRecord e) is answered = absurd (never_of_text (script_line j.lattice) (refused_in j j.records) j.records e answered)
+stopped k bs j (Bench c i) is answered =
+    let a = answer_was (script_line j.lattice) (refused_in j j.records) j.records c i answered in
     let s : Split (forward_of j.map) (backward_of j.map) (first_scene j) j.records a.0 c = split (forward_of j.map) (backward_of j.map) (first_scene j) j.records a.0 c a.1 in
     record {
       job = j;
@@ -65,9 +65,9 @@ unfolding JobRunFault
 run_fault bs old new e (Ok j) is ran = stopped (length old) bs j e is ran.0
 run_fault bs old new e (Err d) is ran = let same : OfRecord d ≡ e = cc (ran.0) in subst (JobRunFault (length old) bs) same (job_fault (length old) bs d is)
 
-told_refused : (j : Job) (r : Result Done RunFault) (e : RunFault) → answer j ≡ Err e → JobTold j r → r ≡ Err e
-told_refused j (Ok d) e is told = let done : answer j ≡ Ok d.made = told.0 in absurd (cc (is, done))
-told_refused j (Err d) e is told = let stopped-at : answer j ≡ Err d = told in cc (is, stopped-at)
+told_refused : (j : Job) (r : Result Done RunFault) (e : RunFault) → answer j ≡ Err e → JobAnswered j r → r ≡ Err e
+told_refused j (Ok d) e is answered = let done : answer j ≡ Ok d.made = answered.0 in absurd (cc (is, done))
+told_refused j (Err d) e is answered = let stopped-at : answer j ≡ Err d = answered in cc (is, stopped-at)
 
 is_stopped : (bs old new : List ℕ) (r : Result Done RunFault) (c : BenchRefusal) (i : ℕ) → JobRun (job (length old) bs) old new r → RefusedRecord (length old) bs c i → r ≡ Err (Bench c i)
 is_stopped bs old new r c i ran f =

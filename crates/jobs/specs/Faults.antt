@@ -12,7 +12,7 @@
 --     JobRunFault k bs e     e is why the job bs is not run to its end: what is wrong with its text, or the first record that the bench refuses
 use Rattle.std.specs.Prelude.{◌≡◌, ◌≢◌, ◌⊎◌, ℕ, ◌+◌, ◌<◌, ◌≤◌, List, ◌∷◌, ◌++◌, length, codes, false, None}
 use Rattle.std.specs.List.{count_by}
-use Rattle.any_bench.specs.Scenes.{told_at, after_calls}
+use Rattle.any_bench.specs.Scenes.{answered_at, after_calls}
 use Rattle.any_bench.specs.declared.answer.Answer.TheVariants.{Refused}
 use Rattle.boards.specs.Boards.{board_text}
 use Rattle.boards.specs.Laws.{field, LineFault, NextFault, BoardFault}
@@ -81,7 +81,7 @@ pub record RefusedRecord (k : ℕ) (bs : List ℕ) (c : BenchRefusal) (i : ℕ) 
   pub records : job.records ≡ made ++ (next ∷ more)
   pub line : i ≡ script_line job.lattice + length made
   pub accepted : first_refused (forward_of job.map) (backward_of job.map) (first_scene job) made ≡ None
-  pub refused : told_at next (after_calls (forward_of job.map) (backward_of job.map) (first_scene job) made) ≡ Refused c
+  pub refused : answered_at next (after_calls (forward_of job.map) (backward_of job.map) (first_scene job) made) ≡ Refused c
 
 unfoldable pub JobRunFault : ℕ → List ℕ → RunFault → Type 0
 JobRunFault k bs (OfRecord e) = JobFault k bs e
