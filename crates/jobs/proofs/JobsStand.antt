@@ -1,6 +1,5 @@
 -- After a job is run, its board is held, changed by the actions that stand. Assumes nothing.
 use Rattle.std.proofs.Common.{◌≡◌, ℕ, ◌≤◌, List, length, Ok, Err, Result, IfOk, refl, sym, subst}
-use Rattle.any_bench.specs.Scenes.{Scene, after_calls}
 use Rattle.faults.specs.declared.record.RecordFault.{RecordFault}
 use Rattle.faults.specs.declared.run.RunFault.{RunFault}
 use Rattle.lattice.proofs.Wholes.{same_shape_whole}
@@ -9,8 +8,7 @@ use Rattle.lattice.specs.Starts.{StartOf}
 use Rattle.ledger.proofs.Shapes.{standing_shape}
 use Rattle.named_maps.specs.Choice.{forward_of, backward_of}
 use Rattle.named_maps.specs.Laws.{laws_of}
-use Rattle.runs.proofs.StandingRuns.{Stands, stands_opened, stands_after, stands_closed, rests_closed}
-use Rattle.runs.specs.Runs.{first_refused, made_of}
+use Rattle.runs.proofs.StandingRuns.{Stands, stands_opened, run_stands, run_rests}
 use Rattle.scripts.specs.declared.state.State.TheVariants.{Rest}
 use Rattle.jobs.proofs.JobLaws.{job_was, job_written}
 use Rattle.jobs.specs.Answers.{Filled, JobAnswered, JobRun}
@@ -19,20 +17,11 @@ use Rattle.jobs.specs.Laws.{IsJob, standing_board, StandsOn}
 use Rattle.jobs.specs.Outcomes.{first_scene, outcome}
 use Rattle.jobs.specs.declared.done.Done.{Done}
 
--- what is held once the records were made, before an open session is closed
-abbrev made : Job → Scene
-made j = after_calls (forward_of j.map) (backward_of j.map) (first_scene j) (made_of (first_refused (forward_of j.map) (backward_of j.map) (first_scene j) j.records) j.records)
-
 pub outcome_stands : (j : Job) → Within j.lattice → Stands (forward_of j.map) (backward_of j.map) j.lattice (outcome j)
-outcome_stands j within =
-    let f = forward_of j.map in
-    let g = backward_of j.map in
-    let laws = laws_of j.map in
-    stands_closed f g laws j.lattice within (made j).ledger.state (made j)
-    (stands_after f g laws j.lattice within (made_of (first_refused f g (first_scene j) j.records) j.records) (first_scene j) (stands_opened f g j.lattice))
+outcome_stands j within = run_stands (forward_of j.map) (backward_of j.map) (laws_of j.map) j.lattice within (first_scene j) (Ok j.records) (stands_opened (forward_of j.map) (backward_of j.map) j.lattice)
 
 pub outcome_rests : (j : Job) → (outcome j).ledger.state ≡ Rest
-outcome_rests j = rests_closed (forward_of j.map) (backward_of j.map) (made j).ledger.state (made j) refl
+outcome_rests j = run_rests (forward_of j.map) (backward_of j.map) (first_scene j) (Ok j.records) refl
 
 start_stands : (j : Job) (r : Result Done RunFault) → JobAnswered j r → (outcome j).lattice ≡ standing_board j → IfOk r (λ d. StartOf (standing_board j) d.start)
 start_stands j (Err e) answered is = tt

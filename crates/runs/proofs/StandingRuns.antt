@@ -1,11 +1,15 @@
 -- After a run the bench rests, and holds what the actions that stand make of the lattice it was opened on. Assumes nothing.
 --     Stands f g l s     the ledger of s is sound, and s holds what the ledger says, if l was the opening lattice
-use Rattle.std.proofs.Common.{◌≡◌, Bool, true, false, cond, List, [], ◌∷◌, length, Some, None, Option, refl, sym, ap, ap₂, ◌∙◌, subst}
+use Rattle.std.proofs.Common.{◌≡◌, Bool, true, false, cond, List, [], ◌∷◌, ◌++◌, length, Some, None, Option, Ok, Err, Result, refl, sym, ap, ap₂, ◌∙◌, subst}
 use Rattle.std.proofs.lemmas.Bool.{cond_both}
+use Rattle.std.proofs.lemmas.List.Sums.{fold-append}
+use Rattle.actions.specs.Actions.{all_made}
+use Rattle.actions.specs.Flips.{all_flipped}
 use Rattle.any_bench.proofs.Skipped.{at_test}
 use Rattle.any_bench.specs.Calls.{booked_if, made_if}
 use Rattle.any_bench.specs.Scenes.{Scene, after_call, after_calls}
 use Rattle.faults.specs.declared.run.BenchRefusal.{BenchRefusal}
+use Rattle.faults.specs.declared.run.RunFault.{RunFault}
 use Rattle.lattice.specs.Lattice.{Lattice, Within, SameShape}
 use Rattle.lattice.specs.Maps.{Reversible}
 use Rattle.ledger.proofs.Held.{moved_held}
@@ -14,7 +18,8 @@ use Rattle.ledger.proofs.Sound.{Sound, sound_at_opening, after_sound}
 use Rattle.ledger.specs.Effects.{effect, standing_for}
 use Rattle.ledger.specs.Ledgers.{Ledger, at_opening, booked}
 use Rattle.ledger.specs.Refusals.{refusal, if_accepted, after}
-use Rattle.runs.specs.Runs.{closed_if}
+use Rattle.runs.specs.Runs.{first_refused, made_of, closed_if, run_of}
+use Rattle.runs.specs.Standing.{opened, HasLived, RestsOn}
 use Rattle.scripts.specs.Records.{kind_of}
 use Rattle.scripts.specs.States.{permits}
 use Rattle.scripts.specs.declared.record.Record.TheVariants as Call
@@ -63,11 +68,11 @@ module _ (f g : Lattice → Lattice) (laws : Reversible f g) (l : Lattice) (insi
   stands_after [] s now = now
   stands_after (c ∷ cs) s now = stands_after cs (after_call f g c s) (stands_then c s now)
 
-  pub stands_closed : (t : State) (s : Scene) → Stands f g l s → Stands f g l (closed_if t f g s)
+  stands_closed : (t : State) (s : Scene) → Stands f g l s → Stands f g l (closed_if t f g s)
   stands_closed Rest s now = now
   stands_closed Session s now = stands_then Call.Close (after_call f g Call.Clear s) (stands_then Call.Clear s now)
 
-pub stands_opened : (f g : Lattice → Lattice) (l : Lattice) → Stands f g l (record { ledger = at_opening; lattice = l })
+pub stands_opened : (f g : Lattice → Lattice) (l : Lattice) → Stands f g l (opened l)
 stands_opened f g l = record { sound = sound_at_opening l.width l.height; held = refl }
 
 -- clearing and then closing a session leaves the bench at rest
@@ -79,6 +84,42 @@ cleared f g s =
 closed : (f g : Lattice → Lattice) (s : Scene) → s.ledger.state ≡ Session → (after_call f g Call.Close s).ledger.state ≡ Rest
 closed f g s is = ap (λ t. (cond (permits t (kind_of Call.Close)) (booked Call.Close s.ledger) s.ledger).state) is
 
-pub rests_closed : (f g : Lattice → Lattice) (t : State) (s : Scene) → s.ledger.state ≡ t → (closed_if t f g s).ledger.state ≡ Rest
+rests_closed : (f g : Lattice → Lattice) (t : State) (s : Scene) → s.ledger.state ≡ t → (closed_if t f g s).ledger.state ≡ Rest
 rests_closed f g Rest s is = is
 rests_closed f g Session s is = closed f g (after_call f g Call.Clear s) (cleared f g s ∙ is)
+
+-- a run keeps both, whether the text is accepted or not
+module _ (f g : Lattice → Lattice) where
+  made : Scene → List Record → Scene
+  made s rs = after_calls f g s (made_of (first_refused f g s rs) rs)
+
+  pub run_stands : Reversible f g → (l : Lattice) → Within l → (s : Scene) (a : Result (List Record) RunFault) → Stands f g l s → Stands f g l (run_of f g s a)
+  unfolding made
+  run_stands laws l inside s (Ok rs) now = stands_closed f g laws l inside (made s rs).ledger.state (made s rs) (stands_after f g laws l inside (made_of (first_refused f g s rs) rs) s now)
+  run_stands laws l inside s (Err e) now = now
+
+  pub run_rests : (s : Scene) (a : Result (List Record) RunFault) → s.ledger.state ≡ Rest → (run_of f g s a).ledger.state ≡ Rest
+  unfolding made
+  run_rests s (Ok rs) rest = rests_closed f g (made s rs).ledger.state (made s rs) refl
+  run_rests s (Err e) rest = rest
+
+  -- the calls so far, and those of the run
+  more_lived : (l : Lattice) (s : Scene) (cs : List Record) → HasLived f g l s → HasLived f g l (after_calls f g s cs)
+  more_lived l s cs so_far = record { calls = so_far.calls ++ cs; scene = ap (λ t. after_calls f g t cs) so_far.scene ∙ sym (fold-append (λ t c. after_call f g c t) (opened l) so_far.calls cs) }
+
+  closed_lived : (l : Lattice) (t : State) (s : Scene) → HasLived f g l s → HasLived f g l (closed_if t f g s)
+  closed_lived l Rest s so_far = so_far
+  closed_lived l Session s so_far = more_lived l s (Call.Clear ∷ Call.Close ∷ []) so_far
+
+  pub run_lived : (l : Lattice) (s : Scene) (a : Result (List Record) RunFault) → HasLived f g l s → HasLived f g l (run_of f g s a)
+  unfolding made
+  run_lived l s (Ok rs) so_far = closed_lived l (made s rs).ledger.state (made s rs) (more_lived l s (made_of (first_refused f g s rs) rs) so_far)
+  run_lived l s (Err e) so_far = so_far
+
+  pub run_rests_on : Reversible f g → (l : Lattice) → Within l → (s : Scene) (a : Result (List Record) RunFault) → s.ledger.state ≡ Rest → HasLived f g l s → RestsOn f g l (run_of f g s a)
+  run_rests_on laws l inside s a rest lived =
+      let before : Stands f g l s = subst (Stands f g l) (sym lived.scene) (stands_after f g laws l inside lived.calls (opened l) (stands_opened f g l)) in
+      let stands = run_stands laws l inside s a before in
+      let rests = run_rests s a rest in
+      let none = stands.sound.at_rest rests in
+      record { rests = rests; no_flips = none; held = stands.held ∙ ap (λ q. all_flipped q (all_made f g (run_of f g s a).ledger.standing l)) none }

@@ -1,3 +1,4 @@
 pub mod Runs
 pub mod Scenes
+pub mod Standing
 pub mod Steps

@@ -3,8 +3,10 @@ ghost use Rattle.std.specs.Prelude.{◌≡◌, List, Ok, length};
 ghost use Rattle.any_bench.specs.AnyBenches.{any_map};
 ghost use Rattle.any_bench.specs.Scenes.{scene_of};
 ghost use Rattle.bench.specs.Benches.{map_of};
+ghost use Rattle.lattice.specs.Lattice.{Lattice, Within};
 ghost use Rattle.runs.specs.Runs.{first_refused, answer_of, at_rest, run_answer, run_of, run_scene};
 ghost use Rattle.runs.specs.Scenes.{rest_scene};
+ghost use Rattle.runs.specs.Standing.{HasLived, RestsOn};
 ghost use Rattle.runs.specs.Steps.{fault_in, ran, ran_answer};
 ghost use Rattle.scripts.specs.Judgements.{script, count_of};
 ghost use Rattle.scripts.specs.Reading.{left_of, reader_of};
@@ -81,6 +83,24 @@ pub fn run<'m, M: Map>(
     cells: &mut [u8],
     text: &[u8],
     first_line: LineNumber,
+) -> (Bench<'m, M>, Result<usize, RunFault>)
+    ensures answer { result.1 ≡ run_answer (M.forward (map_of bench.entry)) (M.backward (map_of bench.entry)) (rest_scene bench.entry cells.old) first_line text.now }
+    ensures scene { rest_scene result.0 cells.new ≡ run_scene (M.forward (map_of bench.entry)) (M.backward (map_of bench.entry)) (rest_scene bench.entry cells.old) first_line text.now }
+    ensures map { map_of result.0 ≡ map_of bench.entry }
+    // whatever calls the bench has had since it was opened on l: what is held is what the actions that stand make of l, and no session is open
+    ensures stands { (l : Lattice) → Within l → HasLived (M.forward (map_of bench.entry)) (M.backward (map_of bench.entry)) l (rest_scene bench.entry cells.old) → RestsOn (M.forward (map_of bench.entry)) (M.backward (map_of bench.entry)) l (rest_scene result.0 cells.new) }
+    // and those of the run are further calls
+    ensures lived { (l : Lattice) → HasLived (M.forward (map_of bench.entry)) (M.backward (map_of bench.entry)) l (rest_scene bench.entry cells.old) → HasLived (M.forward (map_of bench.entry)) (M.backward (map_of bench.entry)) l (rest_scene result.0 cells.new) }
+{
+    run_checked(bench, cells, text, first_line)
+}
+
+// Runs the script, if the check of cells and text lets it through.
+fn run_checked<'m, M: Map>(
+    bench: Bench<'m, M>,
+    cells: &mut [u8],
+    text: &[u8],
+    first_line: u32,
 ) -> (Bench<'m, M>, Result<usize, RunFault>)
     ensures answer { result.1 ≡ run_answer (M.forward (map_of bench.entry)) (M.backward (map_of bench.entry)) (rest_scene bench.entry cells.old) first_line text.now }
     ensures scene { rest_scene result.0 cells.new ≡ run_scene (M.forward (map_of bench.entry)) (M.backward (map_of bench.entry)) (rest_scene bench.entry cells.old) first_line text.now }
