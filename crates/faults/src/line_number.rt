@@ -3,8 +3,8 @@ ghost use Rattle.std.specs.Prelude.{◌≡◌, ℕ, ◌+◌, ◌-◌, ◌≤◌,
 
 use std::marker::Model;
 
-/// The number that the first line of a text has: 1, or more where the text is part of another and lines come before it. It is never 0,
-/// which stands for a text as a whole where a fault names its line.
+/// The number that the first line of a text has: 1, or more where the text is part of another and lines come before it. It is never 0, which a report
+/// has where a fault is of no line.
 #[derive(Clone, Copy, PartialEq, Eq, Debug)]
 pub struct LineNumber {
     // how many lines come before
