@@ -835,7 +835,7 @@ for number in range(1500):
     if number % 4 == 3 and text != b"":
         text = chance.choice(DAMAGES)(text)
     handed = chance.choice([cells] * 27 + [0, cells - 1, cells + 1])
-    first = chance.choice([0, 1, 1, 7, 4294967295])
+    first = chance.choice([1, 1, 2, 7, 4294967296])
     before = bench
     bench, made, fault = run(bench, handed, text, first)
     ends["to the end" if fault is None else fault[:2]] += 1

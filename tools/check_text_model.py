@@ -484,7 +484,7 @@ def lines_up_to(text, line):
 def check_script_in_other_ways(text):
     records, fault = check_script(text, 1)
     check(f"script {text}: accepted", fault is None, is_script(text))
-    for first in [0, 7, 4294967295]:
+    for first in [2, 7, 4294967296]:
         there = (records, None) if fault is None else (None, moved(fault, first - 1))
         check(f"script {text} from line {first}", check_script(text, first), there)
     if fault is None:
@@ -504,7 +504,7 @@ def check_board_in_other_ways(text):
     answer, fault = check_board(text, 1)
     board = board_text_in(text)
     check(f"board {text}: accepted", fault is None, board is not None)
-    for first in [0, 7, 4294967295]:
+    for first in [2, 7, 4294967296]:
         there = (answer, None) if fault is None else (None, moved(fault, first - 1))
         check(f"board {text} from line {first}", check_board(text, first), there)
     if fault is None:

@@ -17,6 +17,7 @@ chance = random.Random(1)
 # --- The lines of the input -----------------------------------------------------------------------
 
 FIRSTS = [1, 2, 7, 100, 4294967295]
+LARGEST_FIRST = 4294967296
 
 # Kind, number of the first line, size of the memory, text; in their order, and none twice.
 vectors = []
@@ -93,7 +94,7 @@ def good_script(parts):
     return text_model.script_written(good_records(parts))
 
 
-for first in [0] + FIRSTS:
+for first in [LARGEST_FIRST] + FIRSTS:
     add_script(b"", first)
     add_script(text_of("undo"), first)
     add_script(text_of("open", "flip 1 2 3", "clear", "flip 0 0 255", "close"), first)
@@ -191,7 +192,7 @@ for which, line in enumerate(BAD_IN_SESSION):
     add_bad_line(line, which, text_of("open"), before, after)
 
 # 26
-for first in [0] + FIRSTS:
+for first in [LARGEST_FIRST] + FIRSTS:
     add_script(text_of("open"), first)
     add_script(text_of("open", "close", "open", "flip 0 0 1"), first)
 for parts in range(12):
@@ -205,7 +206,7 @@ for text in [
     b"step\t01\nstep\t1", b"open\nopen",
 ]:
     add_script(text)
-for first in [0] + FIRSTS:
+for first in [LARGEST_FIRST] + FIRSTS:
     add_script(b"undo\nredo", first)
 for parts in range(1, 10):
     add_script(good_script(parts)[:-1])
@@ -484,7 +485,7 @@ for width, height in SHAPES:
             (area + chance.randrange(2, 300), behind()),
         ]:
             add_board(text_model.board_written(any_lattice(width, height, phase)) + more, size)
-for first in [0] + FIRSTS:
+for first in [LARGEST_FIRST] + FIRSTS:
     for size in [4, 5]:
         add_board(text_of("board 2 2 0", "row 0001", "row 0203"), size, first)
         add_board(text_of("board 2 2 1", "row f00f", "row 9aa9", "undo"), size, first)
@@ -624,7 +625,7 @@ for byte in CAPITALS + NO_DIGITS:
 # --- Boards of which lines are missing, and memories that are too short ---------------------------
 
 # 32
-for first in [0] + FIRSTS:
+for first in [LARGEST_FIRST] + FIRSTS:
     add_board(b"", 4, first)
     add_board(text_of("board 2 2 0"), 4, first)
     add_board(text_of("board 2 2 0", "row 0000"), 4, first)
@@ -647,7 +648,7 @@ for width, height in SHAPES:
     for size in [0, area // 2, area - 1, area - 1]:
         add_board(board(width, height), size)
         add_board(board(width, height) + behind(), size)
-for first in [0] + FIRSTS:
+for first in [LARGEST_FIRST] + FIRSTS:
     for size in [0, 1, 3]:
         add_board(text_of("board 2 2 0", "row 0001", "row 0203"), size, first)
 add_board(board(2, 256), 511)

@@ -1,5 +1,6 @@
 //! The longest script that a bench can write.
 use bench::bench::Bench;
+use faults::line_number::LineNumber;
 use lattice::map::Map;
 use lattice::start::Start;
 use named_maps::mixed::mixed;
@@ -46,7 +47,12 @@ fn the_longest_script_is_written_read_back_and_run(rt: HostRuntime) -> Result<()
     assert!(rt; script[LONGEST] == b'.');
     assert!(rt; front(&script, 28) == b"open\nflip\t103\t122\t199\nclose\n".as_slice());
     let third = Bench::new(&map, bench.start());
-    let (third, answer) = run(third, &mut cells, front(&script, LONGEST), 1);
+    let (third, answer) = run(
+        third,
+        &mut cells,
+        front(&script, LONGEST),
+        LineNumber::first(),
+    );
     assert_eq!(rt; answer, Ok(768));
     assert_eq!(rt; third.counts(), (256, 0, 0, 1));
     assert!(rt; cells == [0x51; CELLS]);

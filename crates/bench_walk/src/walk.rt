@@ -3,6 +3,7 @@ use crate::calls::{clear, flip, redo, step, undo};
 use crate::shown::{show_board, show_counts, show_given};
 use anyhow::Context;
 use bench::bench::Bench;
+use faults::line_number::LineNumber;
 use lattice::map::Map;
 use lattice::start::Start;
 use runs::run::run;
@@ -16,8 +17,6 @@ const HEIGHT: u32 = 8;
 
 // Enough for any reverse script.
 const MAX_SCRIPT: usize = 7_168;
-
-const FIRST_LINE: u32 = 1;
 
 fn go_out<'m, M: Map>(
     rt: &impl Print,
@@ -68,7 +67,7 @@ fn go_home<M: Map>(
         Bench::new(map, bench.start()),
         cells,
         &script[..len],
-        FIRST_LINE,
+        LineNumber::first(),
     );
     let made = answer.context("the script is refused")?;
     print!(rt; "made\t{made}")?;

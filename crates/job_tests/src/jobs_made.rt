@@ -89,7 +89,7 @@ fn a_job_is_opened(rt: HostRuntime) -> Result<(), Fail> {
     )?;
     assert_eq!(rt; opening.map, NamedMap::Bbm);
     assert_eq!(rt; opening.start, Start::new(2, 2, 1)?);
-    assert_eq!(rt; (opening.script_at, opening.script_line), (38, 5));
+    assert_eq!(rt; (opening.script_at, opening.script_line.number()), (38, 5));
     assert_eq!(rt; cells, [1, 2, 3, 4, 9]);
     Ok(())
 }

@@ -9,10 +9,9 @@ ghost use Rattle.lives.specs.WaysBack.{GoesBack};
 use crate::outcome::{Journey, WayBack};
 use any_bench::call::AnyBench;
 use bench::bench::Bench;
+use faults::line_number::LineNumber;
 use lattice::map::Map;
 use runs::run::run;
-
-const FIRST_LINE: u32 = 1;
 
 // Unless a session is open, writes the reverse script, opens a third bench on a copy of `cells`, and runs the script there.
 pub(crate) fn go_back<M: Map>(
@@ -39,7 +38,7 @@ pub(crate) fn go_back<M: Map>(
         Bench::new(map, bench.start()),
         home,
         &script[..len],
-        FIRST_LINE,
+        LineNumber::first(),
     );
     WayBack::Gone(Journey {
         script_len: len,

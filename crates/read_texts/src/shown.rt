@@ -2,6 +2,7 @@
 use anyhow::Context;
 use boards::board_text::board_text;
 use boards::read::read_board;
+use faults::line_number::LineNumber;
 use faults::report::Report;
 use lattice::start::max_cells;
 use scripts::check::check;
@@ -9,7 +10,7 @@ use std::io;
 use std::io::Write;
 
 pub(crate) fn show_script(rt: &HostRuntime, name: &str, text: &[u8]) -> anyhow::Result<()> {
-    match check(text, 1) {
+    match check(text, LineNumber::first()) {
         Ok(count) => println!(rt; "{name}\tscript\t{count}")?,
         Err(fault) => println!(rt; "{name}\t{}", Report::from(fault))?,
     }
@@ -19,7 +20,7 @@ pub(crate) fn show_script(rt: &HostRuntime, name: &str, text: &[u8]) -> anyhow::
 // A board that was read is written back, and what was written is printed.
 pub(crate) fn show_board(rt: &HostRuntime, name: &str, text: &[u8]) -> anyhow::Result<()> {
     let mut cells = vec![in rt.alloc(); 0u8; max_cells()]?;
-    let (start, len) = match read_board(text, 1, &mut cells) {
+    let (start, len) = match read_board(text, LineNumber::first(), &mut cells) {
         Ok(found) => found,
         Err(fault) => {
             println!(rt; "{name}\t{}", Report::from(fault))?;

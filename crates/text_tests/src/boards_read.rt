@@ -1,6 +1,7 @@
 //! Boards that are read: what is returned, and what the memory holds.
 use boards::check::check_board;
 use boards::read::read_board;
+use faults::line_number::LineNumber;
 use faults::report::Report;
 use lattice::start::Start;
 use std::process::Abort;
@@ -11,12 +12,12 @@ const BOARD: &[u8] = b"board\t4\t2\t1\nrow\t00010203\nrow\tf0a5ff7e\n";
 #[test]
 fn a_board_fills_its_cells_and_no_more(rt: HostRuntime) -> Result<(), Fail> {
     let mut cells = [9; 10];
-    let (start, len) = read_board(BOARD, 1, &mut cells)?;
+    let (start, len) = read_board(BOARD, LineNumber::first(), &mut cells)?;
     assert_eq!(rt; start, Start::new(4, 2, 1)?);
     assert_eq!(rt; len, 38);
     assert_eq!(rt; cells, [0, 1, 2, 3, 240, 165, 255, 126, 9, 9]);
     let mut exact = [9; 8];
-    read_board(BOARD, 1, &mut exact)?;
+    read_board(BOARD, LineNumber::first(), &mut exact)?;
     assert_eq!(rt; exact, [0, 1, 2, 3, 240, 165, 255, 126]);
     Ok(())
 }
@@ -25,7 +26,7 @@ fn a_board_fills_its_cells_and_no_more(rt: HostRuntime) -> Result<(), Fail> {
 fn text_may_follow(rt: HostRuntime) -> Result<(), Fail> {
     let text = b"board\t2\t2\t0\nrow\t0100\nrow\t0000\nstep\t1\nnonsense\n";
     let mut cells = [9; 4];
-    let (start, len) = read_board(text, 1, &mut cells)?;
+    let (start, len) = read_board(text, LineNumber::first(), &mut cells)?;
     assert_eq!(rt; start, Start::new(2, 2, 0)?);
     assert_eq!(rt; len, 30);
     assert_eq!(rt; cells, [1, 0, 0, 0]);
@@ -41,7 +42,8 @@ fn fault(
 ) -> Option<(u8, u8, usize, usize)> {
     let mut memory = [5; 9];
     let lent = memory.get_mut(..room)?;
-    let answer = read_board(text, first_line, lent);
+    let lines_before = first_line.checked_sub(1)?;
+    let answer = read_board(text, LineNumber::after(lines_before), lent);
     assert_eq!(rt; memory, [5; 9]);
     let report = Report::from(answer.err()?);
     Some((report.layer, report.number, report.line, report.field))
@@ -135,8 +137,11 @@ fn lines_count_from_the_first(rt: HostRuntime) -> Result<(), Fail> {
 
 #[test]
 fn a_check_answers_the_same_without_memory(rt: HostRuntime) -> Result<(), Fail> {
-    assert_eq!(rt; check_board(BOARD, 3)?, (Start::new(4, 2, 1)?, 38));
-    let report = check_board(b"board\t2\t2\t0\nrow\t0000\n", 3)
+    assert_eq!(rt;
+        check_board(BOARD, LineNumber::after(2))?,
+        (Start::new(4, 2, 1)?, 38)
+    );
+    let report = check_board(b"board\t2\t2\t0\nrow\t0000\n", LineNumber::after(2))
         .err()
         .map(Report::from);
     assert_eq!(rt; report.map(|r| (r.number, r.line)), Some((32, 5)));

@@ -1,6 +1,7 @@
 //! Boards that are written, and read again.
 use boards::read::read_board;
 use boards::write::write_board;
+use faults::line_number::LineNumber;
 use lattice::start::Start;
 use std::test::Fail;
 
@@ -43,7 +44,7 @@ fn refused_writing_writes_nothing(rt: HostRuntime) -> Result<(), Fail> {
 #[test]
 fn what_was_written_is_read(rt: HostRuntime) -> Result<(), Fail> {
     let mut cells = [1; 8];
-    let (start, len) = read_board(TEXT, 1, &mut cells)?;
+    let (start, len) = read_board(TEXT, LineNumber::first(), &mut cells)?;
     assert_eq!(rt; (start, len), (Start::new(2, 4, 1)?, 48));
     assert_eq!(rt; cells, CELLS);
     Ok(())
@@ -72,7 +73,10 @@ fn the_largest_boards_go_round(rt: HostRuntime) -> Result<(), Fail> {
         if len <= memory.len() {
             text.extend_from_slice(&memory[..len])?;
         }
-        assert_eq!(rt; read_board(&text, 1, &mut again)?, (start, len));
+        assert_eq!(rt;
+            read_board(&text, LineNumber::first(), &mut again)?,
+            (start, len)
+        );
         assert!(rt; again == cells);
     }
     Ok(())

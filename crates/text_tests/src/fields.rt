@@ -1,4 +1,5 @@
 //! Fields of texts, one after another, also of texts that no check would accept.
+use faults::line_number::LineNumber;
 use std::process::Abort;
 use std::test::Fail;
 use text::field::Field;
@@ -22,7 +23,7 @@ fn next_is(
 
 #[test]
 fn fields_of_finished_lines(rt: HostRuntime) -> Result<(), Fail> {
-    let mut reader = Reader::new(b"ab\t\tc\n\n\t\nd\n", 1);
+    let mut reader = Reader::new(b"ab\t\tc\n\n\t\nd\n", LineNumber::first());
     next_is(&rt, &mut reader, b"ab", (1, 1), "tab")?;
     assert_eq!(rt; reader.position(), 3);
     next_is(&rt, &mut reader, b"", (1, 2), "tab")?;
@@ -40,19 +41,19 @@ fn fields_of_finished_lines(rt: HostRuntime) -> Result<(), Fail> {
 
 #[test]
 fn fields_of_an_unfinished_line(rt: HostRuntime) -> Result<(), Fail> {
-    let mut reader = Reader::new(b"a\nb\t", 9);
+    let mut reader = Reader::new(b"a\nb\t", LineNumber::after(8));
     next_is(&rt, &mut reader, b"a", (9, 1), "newline")?;
     next_is(&rt, &mut reader, b"b", (10, 1), "tab")?;
     next_is(&rt, &mut reader, b"", (10, 2), "end")?;
     assert!(rt; reader.next_field().is_none());
-    let mut empty = Reader::new(b"", 1);
+    let mut empty = Reader::new(b"", LineNumber::first());
     assert!(rt; empty.next_field().is_none());
     Ok(())
 }
 
 #[test]
 fn other_bytes_are_ordinary(rt: HostRuntime) -> Result<(), Fail> {
-    let mut reader = Reader::new(b"\r\x00\xff\t\x0b \n", 1);
+    let mut reader = Reader::new(b"\r\x00\xff\t\x0b \n", LineNumber::first());
     next_is(&rt, &mut reader, b"\r\x00\xff", (1, 1), "tab")?;
     next_is(&rt, &mut reader, b"\x0b ", (1, 2), "newline")?;
     Ok(())
@@ -79,7 +80,10 @@ fn kind(line: Line<'_>) -> usize {
 
 #[test]
 fn lines_by_the_number_of_their_fields(rt: HostRuntime) -> Result<(), Fail> {
-    let mut reader = Reader::new(b"a\nb\tc\nd\te\tf\ng\th\ti\tj\nk\tl\tm\tn\to\tp\nq", 1);
+    let mut reader = Reader::new(
+        b"a\nb\tc\nd\te\tf\ng\th\ti\tj\nk\tl\tm\tn\to\tp\nq",
+        LineNumber::first(),
+    );
     let kinds: [(usize, &[u8]); 6] = [
         (1, b"a"),
         (2, b"b"),
@@ -99,7 +103,7 @@ fn lines_by_the_number_of_their_fields(rt: HostRuntime) -> Result<(), Fail> {
 
 #[test]
 fn what_ends_the_fields_of_a_line(rt: HostRuntime) -> Result<(), Fail> {
-    let mut reader = Reader::new(b"a\tb\nc\td\te\tf\ng\nh\ti\tj\nk\t", 1);
+    let mut reader = Reader::new(b"a\tb\nc\td\te\tf\ng\nh\ti\tj\nk\t", LineNumber::first());
     let ends: [(&str, &str); 5] = [
         ("tab", "newline"),
         ("tab", "newline"),
@@ -140,7 +144,7 @@ fn numbers_of_fields(rt: HostRuntime) -> Result<(), Fail> {
         (b"--1", None, None),
     ];
     for (bytes, number, signed) in cases {
-        let mut reader = Reader::new(bytes, 1);
+        let mut reader = Reader::new(bytes, LineNumber::first());
         let field = reader.next_field().ok_or("there is no field")?;
         assert_eq!(rt; field.number().ok(), number);
         assert_eq!(rt; field.signed().ok(), signed);

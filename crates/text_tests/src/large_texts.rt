@@ -1,5 +1,6 @@
 //! Texts at the limit of their length.
 use boards::check::check_board;
+use faults::line_number::LineNumber;
 use faults::record::RecordFault;
 use scripts::check::check;
 use std::test::Fail;
@@ -18,7 +19,7 @@ fn long_text(rt: &HostRuntime) -> Result<Vec<u8>, Fail> {
 fn the_longest_script_passes(rt: HostRuntime) -> Result<(), Fail> {
     let text = long_text(&rt)?;
     assert_eq!(rt; text.len(), 65_536);
-    assert_eq!(rt; check(&text, 1).ok(), Some(13_106));
+    assert_eq!(rt; check(&text, LineNumber::first()).ok(), Some(13_106));
     Ok(())
 }
 
@@ -27,8 +28,14 @@ fn one_byte_more_is_refused(rt: HostRuntime) -> Result<(), Fail> {
     let mut text = long_text(&rt)?;
     text.extend_from_slice(b"\n")?;
     assert_eq!(rt; text.len(), 65_537);
-    assert_eq!(rt; check(&text, 1).err(), Some(RecordFault::TooLong));
-    assert_eq!(rt; check_board(&text, 1).err(), Some(RecordFault::TooLong));
+    assert_eq!(rt;
+        check(&text, LineNumber::first()).err(),
+        Some(RecordFault::TooLong)
+    );
+    assert_eq!(rt;
+        check_board(&text, LineNumber::first()).err(),
+        Some(RecordFault::TooLong)
+    );
     Ok(())
 }
 
@@ -39,7 +46,10 @@ fn length_is_told_before_all_else(rt: HostRuntime) -> Result<(), Fail> {
     for _ in 0..100_000 {
         text.push(b'x')?;
     }
-    assert_eq!(rt; check(&text, 1).err(), Some(RecordFault::TooLong));
+    assert_eq!(rt;
+        check(&text, LineNumber::first()).err(),
+        Some(RecordFault::TooLong)
+    );
     Ok(())
 }
 
@@ -50,7 +60,9 @@ fn the_last_line_counts(rt: HostRuntime) -> Result<(), Fail> {
     text.truncate(65_536 - 7);
     text.extend_from_slice(b"step\tx\n")?;
     assert_eq!(rt; text.len(), 65_536);
-    let report = check(&text, 1).err().map(faults::report::Report::from);
+    let report = check(&text, LineNumber::first())
+        .err()
+        .map(faults::report::Report::from);
     assert_eq!(rt;
         report.map(|r| (r.layer, r.number, r.line, r.field)),
         Some((1, 22, 13_106, 2))

@@ -1,4 +1,5 @@
 //! Scripts: how many records they have, or their first fault.
+use faults::line_number::LineNumber;
 use faults::report::Report;
 use scripts::check::check;
 use scripts::record::Record;
@@ -9,7 +10,8 @@ use std::test::Fail;
 
 // Layer, number, line and field of the fault.
 fn fault(text: &[u8], first_line: u32) -> Option<(u8, u8, usize, usize)> {
-    let report = Report::from(check(text, first_line).err()?);
+    let lines_before = first_line.checked_sub(1)?;
+    let report = Report::from(check(text, LineNumber::after(lines_before)).err()?);
     Some((report.layer, report.number, report.line, report.field))
 }
 
@@ -31,7 +33,7 @@ fn scripts_that_are_accepted(rt: HostRuntime) {
         ),
     ];
     for (text, count) in cases {
-        assert_eq!(rt; check(text, 1).ok(), Some(count));
+        assert_eq!(rt; check(text, LineNumber::first()).ok(), Some(count));
     }
 }
 
@@ -131,7 +133,7 @@ fn next_is(rt: &impl Abort, records: &mut Records<'_>, record: Record) -> Result
 #[test]
 fn records_come_one_after_another(rt: HostRuntime) -> Result<(), Fail> {
     let text = b"step\t-12\nundo\nopen\nflip\t3\t250\t9\nclear\nclose\nredo\n";
-    let mut records = Records::new(text, 5);
+    let mut records = Records::new(text, LineNumber::after(4));
     next_is(&rt, &mut records, Record::Step(-12))?;
     assert_eq!(rt; records.line(), 6);
     next_is(&rt, &mut records, Record::Undo)?;
@@ -156,7 +158,7 @@ fn records_come_one_after_another(rt: HostRuntime) -> Result<(), Fail> {
 // A record that is refused is read again.
 #[test]
 fn a_fault_leaves_the_records_where_they_are(rt: HostRuntime) -> Result<(), Fail> {
-    let mut records = Records::new(b"undo\nclose\nundo\n", 1);
+    let mut records = Records::new(b"undo\nclose\nundo\n", LineNumber::first());
     next_is(&rt, &mut records, Record::Undo)?;
     for _again in 0..2 {
         let report = records.next_record().err().map(Report::from);

@@ -1,5 +1,6 @@
 //! One line of the input.
 use anyhow::{Context, bail};
+use faults::line_number::LineNumber;
 use std::alloc::Global;
 
 #[derive(Clone, Copy, PartialEq, Eq)]
@@ -12,7 +13,7 @@ pub(crate) enum Kind {
 #[derive(Drop)]
 pub(crate) struct Case {
     pub kind: Kind,
-    pub first_line: u32,
+    pub first_line: LineNumber,
     pub room: usize,
     pub text: Vec<u8>,
 }
@@ -25,6 +26,13 @@ fn bytes_of(alloc: Global, digits: &str) -> anyhow::Result<Vec<u8>> {
     Ok(hex::decode(alloc, digits)?)
 }
 
+// Lines count from 1.
+fn line_of(digits: &str) -> anyhow::Result<LineNumber> {
+    let number: usize = digits.parse()?;
+    let lines_before = number.checked_sub(1).context("line 0")?;
+    Ok(LineNumber::after(u32::try_from(lines_before)?))
+}
+
 impl Case {
     pub(crate) fn parse(alloc: Global, line: &str) -> anyhow::Result<Case> {
         let mut fields = line.split(' ');
@@ -33,7 +41,7 @@ impl Case {
             Some("script") => Kind::Script,
             _ => bail!("neither board nor script"),
         };
-        let first_line = fields.next().context("no first line")?.parse()?;
+        let first_line = line_of(fields.next().context("no first line")?)?;
         let room = fields.next().context("no size of a memory")?.parse()?;
         let text = bytes_of(alloc, fields.next().context("no text")?)?;
         Ok(Case {

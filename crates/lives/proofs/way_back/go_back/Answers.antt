@@ -37,10 +37,10 @@ returns g c l within whole sound held_is =
     begins (ledger_of nb) (handed nb copy) (standing_for (F m) (G m) led l) n.ledger (ap₂ held (n.start ∙ c.start.ensures) c.copy_from_slice.ensures.after ∙ here)
     in
     let ran : c.run-answer.result.1 ≡ run_answer (F m) (G m) (begun (F m) (G m) l led) 1 hs =
-    r.answer ∙ ap (λ x. run_answer (F x) (G x) (rest_scene nb copy) 1 text) n.map ∙ ap₂ (λ x y. run_answer (F m) (G m) x 1 y) first text_is
+    r.answer ∙ ap₂ (λ x k. run_answer (F x) (G x) (rest_scene nb copy) k text) n.map c.first.ensures ∙ ap₂ (λ x y. run_answer (F m) (G m) x 1 y) first text_is
     in
     let went : rest_scene third c.run-answer.new.cells ≡ run_scene (F m) (G m) (begun (F m) (G m) l led) 1 hs =
-    r.scene ∙ ap (λ x. run_scene (F x) (G x) (rest_scene nb copy) 1 text) n.map ∙ ap₂ (λ x y. run_scene (F m) (G m) x 1 y) first text_is
+    r.scene ∙ ap₂ (λ x k. run_scene (F x) (G x) (rest_scene nb copy) k text) n.map c.first.ensures ∙ ap₂ (λ x y. run_scene (F m) (G m) x 1 y) first text_is
     in
     let leads = leads_home (F m) (G m) laws l within whole led sound' refl in
     let start = ap (λ x. held x c.run-answer.new.cells) c.start-2.ensures in
