@@ -100,7 +100,7 @@ fn run_checked<'m, M: Map>(
     bench: Bench<'m, M>,
     cells: &mut [u8],
     text: &[u8],
-    first_line: u32,
+    first_line: LineNumber,
 ) -> (Bench<'m, M>, Result<usize, RunFault>)
     ensures answer { result.1 ≡ run_answer (M.forward (map_of bench.entry)) (M.backward (map_of bench.entry)) (rest_scene bench.entry cells.old) first_line text.now }
     ensures scene { rest_scene result.0 cells.new ≡ run_scene (M.forward (map_of bench.entry)) (M.backward (map_of bench.entry)) (rest_scene bench.entry cells.old) first_line text.now }
