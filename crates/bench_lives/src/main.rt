@@ -2,8 +2,8 @@
 #![tactic(auto)]
 
 mod events;
-mod shown;
 mod replies;
+mod shown;
 
 use events::{long_life, open_end};
 use named_maps::blocks::critters;

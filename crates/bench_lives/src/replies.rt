@@ -5,7 +5,7 @@ use anyhow::Context;
 use faults::report::Report;
 use lattice::map::Map;
 use lattice::start::Start;
-use lives::event::{Event, Seen, Reply};
+use lives::event::{Event, Reply, Seen};
 use lives::life::live;
 use lives::memories::Memories;
 use lives::outcome::{Journey, WayBack};

@@ -4,7 +4,7 @@ use anyhow::Context;
 use bench::bench::Counts;
 use boards::board_text::board_text;
 use lattice::start::Start;
-use lives::event::{Event, Lent, Seen, Reply};
+use lives::event::{Event, Lent, Reply, Seen};
 use scripts::record::Record;
 use scripts::write::write_record;
 use std::io;

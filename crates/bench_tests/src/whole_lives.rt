@@ -2,7 +2,7 @@
 use any_bench::answer::Answer;
 use faults::run::BenchRefusal;
 use lattice::start::Start;
-use lives::event::{Event, Lent, Seen, Reply};
+use lives::event::{Event, Lent, Reply, Seen};
 use lives::life::live;
 use lives::memories::Memories;
 use lives::outcome::WayBack;
