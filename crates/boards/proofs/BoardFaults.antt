@@ -1,8 +1,7 @@
 -- A fault of a board is the first that there is, and what is the first is reported. Assumes nothing.
 use Rattle.std.proofs.Common.{◌≡◌, ℕ, suc, zero, ◌+◌, ◌-◌, ◌<◌, ◌≤◌, true, false, List, [], ◌∷◌, ◌++◌, length, drop, map, flat_map, Ok, Err, arith, refl, sym, ◌∙◌, ap, subst, inl, inr, ◌⊎◌}
-use Rattle.std.proofs.lemmas.Bool.{lt-leb, le-leb}
 use Rattle.std.proofs.lemmas.List.{append-nil, drop-drop, drop_at, length-map}
-use Rattle.std.specs.List.{AllByRecursion, count_by}
+use Rattle.std.specs.List.{AllByRecursion}
 use Rattle.faults.proofs.Joined.{went_on}
 use Rattle.faults.specs.Results.{◌>>=◌}
 use Rattle.faults.specs.declared.record.RecordFault.{RecordFault}
@@ -10,7 +9,7 @@ use Rattle.faults.specs.declared.record.RecordFault.TheVariants.{TooLong, Unfini
 use Rattle.lattice.specs.Lattice.{Lattice, with_cells}
 use Rattle.text.proofs.Cuts.{Free}
 use Rattle.text.proofs.EndedLines.{text_is_its_lines, lines_free, lines_of_front}
-use Rattle.text.proofs.WholeTexts.{whole_accepted, whole_passes, whole_refused}
+use Rattle.text.proofs.WholeTexts.{whole_accepted, whole_passes, whole_refused, too_long, unfinished}
 use Rattle.text.specs.Lines.{is_newline, lines, ended}
 use Rattle.text.specs.Wholes.{max_text, finished, whole}
 use Rattle.boards.proofs.BoardLaws.{BoardWas, lines_read_from, start_content, row_content, start_taken, rows_taken, lines_of_first}
@@ -167,12 +166,6 @@ row_missed n bs e f =
 lines_refused : (n : ℕ) (bs : List ℕ) (e : RecordFault) → (NextFault BoardLineFault n bs e ⊎ FaultyRow n bs e) → board_from n (lines bs) ≡ Err e
 lines_refused n bs e (inl f) = ap (λ a. a >>= λ s. rows_from s.width s.height (n + 1) (drop 1 (lines bs)) >>= λ cs. Ok (with_cells s cs)) (next_refused start_at BoardLineFault n bs e (λ fs some wrong. start_line_refused n fs e some wrong) f)
 lines_refused n bs e (inr f) = row_missed n bs e f
-
-pub too_long : (n : ℕ) (bs : List ℕ) → max_text < length bs → whole n bs ≡ Err TooLong
-too_long n bs long = rw (lt-leb (length bs) max_text long) refl
-
-pub unfinished : (n i : ℕ) (bs : List ℕ) → length bs ≤ max_text → finished bs ≡ false → i ≡ n + count_by is_newline bs → whole n bs ≡ Err (Unfinished i)
-unfinished n i bs short ends is = rw (le-leb (length bs) max_text short, ends) (ap (λ j. Err (Unfinished j)) (sym is))
 
 pub board_refused : (n : ℕ) (bs : List ℕ) (e : RecordFault) → BoardFault n bs e → board n bs ≡ Err e
 unfolding board

@@ -11,6 +11,7 @@ use Rattle.faults.specs.declared.record.RecordFault.{RecordFault}
 use Rattle.lattice.specs.Lattice.{Lattice}
 use Rattle.lattice.specs.Refusals.{start_refusal}
 use Rattle.lattice.specs.declared.refusal.StartRefusal.{StartRefusal}
+use Rattle.text.proofs.Arguments.{three_args, one_arg}
 use Rattle.text.proofs.Written.{number_read, number_written}
 use Rattle.text.specs.Numbers.{number_of, number_at, WritesNumber}
 use Rattle.boards.proofs.HexText.{AreBytes, ReadDigits, digits_read, hex_is_hex, length-hex, cells_of_hex}
@@ -46,19 +47,6 @@ numbers_read n a b c l is =
     let s = sides_read n x.0 y.0 z.0 (start_refusal x.0 y.0 z.0) l z.2 in
     let fields : (codes "board" ∷ a ∷ b ∷ c ∷ []) ≡ codes "board" ∷ decimal x.0 ∷ decimal y.0 ∷ decimal z.0 ∷ [] = cc (u.1, v.1, w.1) in
     subst (StartRead (codes "board" ∷ a ∷ b ∷ c ∷ [])) s.1 (record { written = fields; accepted = s.0; no_cells = refl })
-
--- so many fields one by one
-pub three_args : (args : List (List ℕ)) → length args ≡ 3 → (a : List ℕ) × (b : List ℕ) × (c : List ℕ) × (args ≡ a ∷ b ∷ c ∷ [])
-three_args [] len = absurd (omega arith)
-three_args (a ∷ []) len = absurd (omega arith)
-three_args (a ∷ b ∷ []) len = absurd (omega arith)
-three_args (a ∷ b ∷ c ∷ d ∷ args) len = absurd (omega arith)
-three_args (a ∷ b ∷ c ∷ []) len = (a, b, c, refl)
-
-pub one_arg : (args : List (List ℕ)) → length args ≡ 1 → (a : List ℕ) × (args ≡ a ∷ [])
-one_arg [] len = absurd (omega arith)
-one_arg (a ∷ b ∷ args) len = absurd (omega arith)
-one_arg (a ∷ []) len = (a, refl)
 
 three : (n : ℕ) (args : List (List ℕ)) (l : Lattice) → length args ≡ 3 → numbers_at n (slice_index_or args 0 []) (slice_index_or args 1 []) (slice_index_or args 2 []) ≡ Ok l → StartRead (codes "board" ∷ args) l
 three n args l len = let t = three_args args len in subst (λ (xs : List (List ℕ)). numbers_at n (slice_index_or xs 0 []) (slice_index_or xs 1 []) (slice_index_or xs 2 []) ≡ Ok l → StartRead (codes "board" ∷ xs) l) (sym t.3) (numbers_read n t.0 t.1 t.2 l)

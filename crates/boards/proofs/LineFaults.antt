@@ -13,14 +13,14 @@ use Rattle.faults.specs.declared.record.RecordFault.TheVariants.{Field, UnknownW
 use Rattle.lattice.specs.Lattice.{Lattice}
 use Rattle.lattice.specs.Refusals.{start_refusal}
 use Rattle.lattice.specs.declared.refusal.StartRefusal.{StartRefusal}
+use Rattle.text.proofs.Arguments.{three_args, one_arg}
+use Rattle.text.proofs.FieldNumbers.{number_given, number_fault, number_was, first_of_three}
 use Rattle.text.proofs.LineFields.{some_field}
 use Rattle.text.proofs.LinesLeft.{lines_cons}
-use Rattle.text.proofs.Written.{number_read, number_written}
 use Rattle.text.specs.Lines.{first_line, lines, fields}
-use Rattle.text.specs.Numbers.{number_of, number_at, WritesNumber}
-use Rattle.boards.proofs.BoardLines.{three_args, one_arg}
+use Rattle.text.specs.Numbers.{number_at, WritesNumber, IsNumber}
 use Rattle.boards.proofs.StartRefusals.{refused_start, start_is_refused}
-use Rattle.boards.specs.Laws.{field, Counted, LineFault, IsNumber, FirstNoNumber, NoStart, NumbersFault, BoardLineFault, IsHexDigit, IsRow, DigitsFault, RowFault, NextFault}
+use Rattle.boards.specs.Laws.{field, Counted, LineFault, NoStart, NumbersFault, BoardLineFault, IsHexDigit, IsRow, DigitsFault, RowFault, NextFault}
 use Rattle.boards.specs.Reading.{line_at, empty, unless_refused, sides_at, numbers_at, start_at, is_hex, cells_of, digits_at, row_at, on_first}
 
 -- the first of two answers is a fault, or it is none and the second is
@@ -73,33 +73,7 @@ module _ {A : Type 0} (w : List ℕ) (k : ℕ) (F : ℕ → List (List ℕ) → 
   line_refused (v ∷ args) (FieldCount i) some below fault = not_so_many v args (eqb (length args) k) refl fault.1 fault.2 ∙ ap (λ j. Err (FieldCount j)) (sym fault.0)
   line_refused (v ∷ args) e some below fault = fields_wrong v args e (λ len. below v args len fault.1) fault.0
 
--- numbers
-is_number : (n k m : ℕ) (bs : List ℕ) → WritesNumber m bs → number_at n k bs ≡ Ok m
-is_number n k m bs w = rw (number_written bs m w) refl
-
-not_number_at : (n k : ℕ) (bs : List ℕ) (o : Option ℕ) → number_of bs ≡ o → (IsNumber bs → ⊥) → number_at n k bs ≡ Err (Field (NotANumber (record { line = n; field = k })))
-not_number_at n k bs None is none = rw is refl
-not_number_at n k bs (Some m) is none = absurd (none (m, number_read bs m is))
-
-not_number : (n k : ℕ) (bs : List ℕ) → (IsNumber bs → ⊥) → number_at n k bs ≡ Err (Field (NotANumber (record { line = n; field = k })))
-not_number n k bs none = not_number_at n k bs (number_of bs) refl none
-
-number_fault_at : (n k : ℕ) (bs : List ℕ) (e : RecordFault) (o : Option ℕ) → number_of bs ≡ o → number_at n k bs ≡ Err e → (e ≡ Field (NotANumber (record { line = n; field = k }))) × (IsNumber bs → ⊥)
-number_fault_at n k bs e None none is =
-    let is' : number_at n k bs ≡ Err (Field (NotANumber (record { line = n; field = k }))) = rw none refl in
-    (cc (is, is'), λ w. let some : number_of bs ≡ Some w.0 = number_written bs w.0 w.1 in absurd cc)
-number_fault_at n k bs e (Some m) some is = let is' : number_at n k bs ≡ Ok m = rw some refl in absurd (cc (is, is'))
-
-number_fault : (n k : ℕ) (bs : List ℕ) (e : RecordFault) → number_at n k bs ≡ Err e → (e ≡ Field (NotANumber (record { line = n; field = k }))) × (IsNumber bs → ⊥)
-number_fault n k bs e is = number_fault_at n k bs e (number_of bs) refl is
-
-number_was : (n k m : ℕ) (bs : List ℕ) → number_at n k bs ≡ Ok m → WritesNumber m bs
-number_was n k m bs is = number_was_at (number_of bs) refl where
-  number_was_at : (o : Option ℕ) → number_of bs ≡ o → WritesNumber m bs
-  number_was_at None none = let is' : number_at n k bs ≡ Err (Field (NotANumber (record { line = n; field = k }))) = rw none refl in absurd (cc (is, is'))
-  number_was_at (Some j) some = let is' : number_at n k bs ≡ Ok j = rw some refl in number_read bs m (let same : j ≡ m = cc (is, is') in some ∙ ap Some same)
-
--- up to the place k, and at it
+-- numbers: up to the place k, and at it
 one_more : (P : ℕ → Type 0) (k : ℕ) → ((j : ℕ) → 2 ≤ j → j < k → P j) → P k → (j : ℕ) → 2 ≤ j → j < k + 1 → P j
 one_more P k before here j low high = elim (cases_lt j k) [ inl l ↦ before j low l | inr g ↦ let is : k ≡ j = omega (arith, g, high) in subst P is here ]
 
@@ -140,45 +114,13 @@ module _ (n : ℕ) (v a b c : List ℕ) where
     | inr x ↦ second_fault x.0 e (number_was n 2 x.0 a x.1) x.2
   ]
 
--- the other way round, whatever is asked of the three numbers
-module _ {B : Type 0} (n : ℕ) (v a b c : List ℕ) (g : ℕ → ℕ → ℕ → Result B RecordFault) where
-  abbrev three_numbers : Result B RecordFault
-  three_numbers = number_at n 2 a >>= λ x. number_at n 3 b >>= λ y. number_at n 4 c >>= λ z. g x y z
-
-  abbrev refused_at : ℕ → Type 0
-  refused_at k = three_numbers ≡ Err (Field (NotANumber (record { line = n; field = k })))
-
-  abbrev is_first : ℕ → Type 0
-  is_first k = FirstNoNumber (v ∷ a ∷ b ∷ c ∷ []) k
-
-  at_two : is_first 2 → refused_at 2
-  at_two f = rw (not_number n 2 a f.here) refl
-
-  at_three : is_first 3 → refused_at 3
-  at_three f = let x : IsNumber a = f.before 2 (omega arith) (omega arith) in rw (is_number n 2 x.0 a x.1, not_number n 3 b f.here) refl
-
-  at_four : is_first 4 → refused_at 4
-  at_four f =
-      let x : IsNumber a = f.before 2 (omega arith) (omega arith) in
-      let y : IsNumber b = f.before 3 (omega arith) (omega arith) in
-      rw (is_number n 2 x.0 a x.1, is_number n 3 y.0 b y.1, not_number n 4 c f.here) refl
-
-  pub number_refused : (k : ℕ) → is_first k → refused_at k
-  number_refused k f =
-      let P : ℕ → Type 0 = λ j. is_first j → refused_at j in
-      let low : 2 ≤ k = f.argument in
-      let high : k ≤ 4 = f.inside in
-      elim (cases_lt k 3) [
-        | inl two ↦ let is : 2 ≡ k = omega arith in subst P is at_two f
-        | inr more ↦ elim (cases_lt k 4) [ inl three ↦ let is : 3 ≡ k = omega arith in subst P is at_three f | inr four ↦ let is : 4 ≡ k = omega arith in subst P is at_four f ]
-      ]
-
+-- the other way round
 module _ (n : ℕ) (v a b c : List ℕ) where
   start_refused : (x : StartRefusal) → NoStart (v ∷ a ∷ b ∷ c ∷ []) x → numbers_at n a b c ≡ Err (Start x n)
-  start_refused x s = rw (is_number n 2 s.width a s.is_width, is_number n 3 s.height b s.is_height, is_number n 4 s.phase c s.is_phase, start_is_refused s.width s.height s.phase x s.refused) refl
+  start_refused x s = rw (number_given n 2 s.width a s.is_width, number_given n 3 s.height b s.is_height, number_given n 4 s.phase c s.is_phase, start_is_refused s.width s.height s.phase x s.refused) refl
 
   pub numbers_refused : (e : RecordFault) → NumbersFault n (v ∷ a ∷ b ∷ c ∷ []) e → numbers_at n a b c ≡ Err e
-  numbers_refused (Field (NotANumber p)) f = number_refused n v a b c (sides_at n) p.field f.1 ∙ ap (λ i. Err (Field (NotANumber (record { line = i; field = p.field })))) (sym f.0)
+  numbers_refused (Field (NotANumber p)) f = first_of_three n v a b c (sides_at n) p.field f.1.argument f.1.inside f.1.here f.1.before ∙ ap (λ i. Err (Field (NotANumber (record { line = i; field = p.field })))) (sym f.0)
   numbers_refused (Start x i) f = start_refused x f.1 ∙ ap (λ j. Err (Start x j)) (sym f.0)
   numbers_refused e f = absurd f
 

@@ -1,4 +1,4 @@
--- The promise of `write_board`: what is written is read as the lattice that it was written from. Assumes nothing.
+-- The promises of `write_board`: what is written is short enough, and is read as the lattice that it was written from. Assumes nothing.
 use Rattle.std.proofs.Common.{◌≡◌, ℕ, suc, zero, ◌+◌, ◌*◌, ◌≤◌, List, [], ◌∷◌, ◌++◌, length, take, drop, map, flat_map, true, Ok, Err, Result, IfOk, arith, sym, ◌∙◌, ap}
 use Rattle.std.proofs.Math.Nat.{mul_comm, suc-mul}
 use Rattle.std.proofs.lemmas.List.{append-nil, take_at}
@@ -47,3 +47,8 @@ pub written_reads_back : (s : Start) (cs old new : List ℕ) (r : Result ℕ Boa
 written_reads_back s cs old new (Err Cells) bytes w = tt
 written_reads_back s cs old new (Err MemoryTooShort) bytes w = tt
 written_reads_back s cs old new (Ok k) bytes w = λ n. ap (board n) (ap (take k) w.3 ∙ take_at (board_text (held s cs)) (drop k old) k (sym w.1)) ∙ board_reads_back n s cs w.0 bytes
+
+pub written_is_short : (s : Start) (cs old new : List ℕ) (r : Result ℕ BoardRefusal) → BoardWritten s cs old new r → IfOk r (λ k. k ≤ 18 + height_of s * (2 * width_of s + 5))
+written_is_short s cs old new (Err Cells) w = tt
+written_is_short s cs old new (Err MemoryTooShort) w = tt
+written_is_short s cs old new (Ok k) w = omega (arith, w.1, board_short s cs w.0)

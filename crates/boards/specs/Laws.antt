@@ -4,7 +4,6 @@
 --     Counted w k fs          the first of the fields fs is the word w, and there are k of them
 --     LineFault w k F n fs e  e is what is wrong with a line with the fields fs, which is line n and should have k fields, beginning with the word
 --                             w: the word, or else the number of fields, or else what F says of them
---     IsNumber bs             bs is a number
 --     FirstNoNumber fs k      field k is the first of the numbers on a board's line with the fields fs that is none
 --     NumbersFault n fs e     e is what is wrong with these numbers: one is none, or else they make no start record
 --     BoardLineFault n fs e   e is what is wrong with the line of a board
@@ -28,7 +27,7 @@ use Rattle.lattice.specs.Limits.{Side, max_area, max_phase}
 use Rattle.lattice.specs.declared.refusal.StartRefusal.{StartRefusal}
 use Rattle.lattice.specs.declared.refusal.StartRefusal.TheVariants as Cause
 use Rattle.text.specs.Lines.{is_newline, first_line, fields}
-use Rattle.text.specs.Numbers.{WritesNumber}
+use Rattle.text.specs.Numbers.{WritesNumber, IsNumber}
 use Rattle.text.specs.Wholes.{max_text, finished}
 use Rattle.boards.specs.Answers.{BeginsWith}
 use Rattle.boards.specs.Boards.{start_line, rows_text}
@@ -48,9 +47,6 @@ abbrev pub LineFault : List ℕ → ℕ → (ℕ → List (List ℕ) → RecordF
 LineFault w k F n fs (UnknownWord i) = (i ≡ n) × (field 1 fs ≢ w)
 LineFault w k F n fs (FieldCount i) = (i ≡ n) × (field 1 fs ≡ w) × (length fs ≢ k)
 LineFault w k F n fs e = Counted w k fs × F n fs e
-
-abbrev pub IsNumber : List ℕ → Type 0
-IsNumber bs = (n : ℕ) × WritesNumber n bs
 
 pub record FirstNoNumber (fs : List (List ℕ)) (k : ℕ) : Type 0 where
   pub argument : 2 ≤ k

@@ -3,7 +3,7 @@ use Rattle.std.proofs.Common.{◌≡◌, ℕ, ◌<◌, ◌≤◌, Bool, true, fa
 use Rattle.std.proofs.Math.Dec.{leb}
 use Rattle.std.proofs.lemmas.Bool.{le-leb, lt-leb, leb-true, leb-false}
 use Rattle.std.proofs.lemmas.List.{length-append, drop_at}
-use Rattle.boards.proofs.BoardFaults.{board_fault, board_refused, next_has_none, too_long, unfinished}
+use Rattle.boards.proofs.BoardFaults.{board_fault, board_refused, next_has_none}
 use Rattle.boards.proofs.FirstFaults.{no_room, found_begins}
 use Rattle.boards.proofs.LineFaults.{went_wrong, next_fault, next_refused}
 use Rattle.boards.proofs.RoundTrips.{written_board}
@@ -18,15 +18,15 @@ use Rattle.faults.specs.declared.record.RecordFault.TheVariants.{TooLong, Unfini
 use Rattle.lattice.specs.Lattice.{Lattice}
 use Rattle.named_maps.specs.declared.named.NamedMap.{NamedMap}
 use Rattle.scripts.proofs.ScriptLaws.{fault}
+use Rattle.scripts.proofs.ScriptRefused.{script_refused}
 use Rattle.scripts.specs.Judgements.{script}
 use Rattle.scripts.specs.Laws.{IsWhole, TextFault}
 use Rattle.text.proofs.EndedLines.{finished_drop}
-use Rattle.text.proofs.WholeTexts.{whole_accepted, whole_passes, whole_refused}
+use Rattle.text.proofs.WholeTexts.{whole_accepted, whole_passes, whole_refused, too_long, unfinished}
 use Rattle.text.specs.Lines.{below_first, lines}
 use Rattle.text.specs.Wholes.{finished, whole}
 use Rattle.jobs.proofs.MapLineFaults.{map_line_fault, map_line_refused}
 use Rattle.jobs.proofs.MapLineLaws.{map_line_was, map_line_taken, below_map_line}
-use Rattle.jobs.proofs.ScriptRefused.{script_refused}
 use Rattle.jobs.specs.Faults.{MapLineFault, FaultyBoard, HasBoard, NoRoom, FaultyScript, JobFault}
 use Rattle.jobs.specs.Jobs.{map_at, if_room, board_in, script_line, job_below, job}
 use Rattle.jobs.specs.Laws.{map_line}

@@ -11,4 +11,3 @@ pub mod MapLineFaults
 pub mod MapLineLaws
 pub mod MapLines
 pub mod RecordRefused
-pub mod ScriptRefused

@@ -1,12 +1,12 @@
 -- What is wrong with a map line: the answer is the first cause, and the first cause is the answer. Assumes nothing.
 use Rattle.std.proofs.Common.{◌≡◌, ℕ, ◌<◌, List, [], ◌∷◌, length, codes, slice_index_or, None, Some, Option, Ok, Err, Result, refl, sym, ◌∙◌, ap, subst}
-use Rattle.boards.proofs.BoardLines.{one_arg}
 use Rattle.boards.proofs.LineFaults.{line_fault, line_refused}
 use Rattle.faults.specs.declared.record.RecordFault.{RecordFault}
 use Rattle.faults.specs.declared.record.RecordFault.TheVariants.{UnknownMap}
 use Rattle.named_maps.specs.Choice.{name_of, map_named}
 use Rattle.named_maps.specs.declared.named.NamedMap.{NamedMap}
 use Rattle.named_maps.specs.declared.named.NamedMap.TheVariants.{Bbm, Critters, Tron, Life2, Mixed}
+use Rattle.text.proofs.Arguments.{one_arg}
 use Rattle.jobs.proofs.MapLineLaws.{name_was}
 use Rattle.jobs.specs.Faults.{NameFault, MapLineFault}
 use Rattle.jobs.specs.Jobs.{named_at, map_at}

@@ -5,4 +5,5 @@ pub mod Lefts
 pub mod ScriptFaults
 pub mod ScriptLaws
 pub mod ScriptLines
+pub mod ScriptRefused
 pub mod Words

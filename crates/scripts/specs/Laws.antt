@@ -13,7 +13,7 @@ use Rattle.faults.specs.declared.field.FieldFault.TheVariants.{NotANumber}
 use Rattle.faults.specs.declared.record.RecordFault.{RecordFault}
 use Rattle.faults.specs.declared.record.RecordFault.TheVariants.{Field, TooLong, Unfinished, UnknownWord, FieldCount, NotPermitted, EndsInSession}
 use Rattle.text.specs.Lines.{is_newline, ended, fields}
-use Rattle.text.specs.Numbers.{WritesNumber, WritesSigned}
+use Rattle.text.specs.Numbers.{WritesSigned, IsNumber}
 use Rattle.text.specs.Wholes.{max_text, finished}
 use Rattle.scripts.specs.Judgements.{arity}
 use Rattle.scripts.specs.Records.{script_of, Writable}
@@ -37,7 +37,7 @@ pub record IsScript (rs : List Record) (bs : List ℕ) : Type 0 where
 
 abbrev pub IsArgument : Word → List ℕ → Type 0
 IsArgument Step bs = (z : ℤ) × WritesSigned z bs
-IsArgument _ bs = (n : ℕ) × WritesNumber n bs
+IsArgument _ bs = IsNumber bs
 
 abbrev pub Spells : Word → List (List ℕ) → Type 0
 Spells w fs = slice_index_or fs 0 [] ≡ spelling w

@@ -1,6 +1,7 @@
 //! The check of a whole script.
-ghost use Rattle.std.specs.Prelude.{◌≡◌, List, IfErr, IfOk, Ok, length};
+ghost use Rattle.std.specs.Prelude.{◌≡◌, ◌↔◌, List, IfErr, IfOk, Ok, Err, length};
 ghost use Rattle.faults.specs.Reports.{NamesLineFrom};
+ghost use Rattle.faults.specs.declared.record.RecordFault.{RecordFault};
 ghost use Rattle.scripts.specs.Judgements.{script, count_of};
 ghost use Rattle.scripts.specs.Laws.{IsScript, TextFault};
 ghost use Rattle.scripts.specs.declared.record.Record.{Record};
@@ -24,15 +25,15 @@ fn count_records(text: &[u8], first_line: LineNumber) -> Result<usize, RecordFau
 }
 
 /// How many records the script has, or its first fault. Its first line has the number `first_line`.
-#[tactic(auto, using(crate::proofs::ScriptLaws::accepted_count, crate::proofs::ScriptLaws::taken, crate::proofs::ScriptLaws::fault, crate::proofs::FaultLines::fault_named))]
+#[tactic(auto, using(crate::proofs::ScriptLaws::accepted_count, crate::proofs::ScriptLaws::taken, crate::proofs::ScriptRefused::check_first, crate::proofs::FaultLines::fault_named))]
 pub fn check(text: &[u8], first_line: LineNumber) -> Result<usize, RecordFault>
     ensures answer { result ≡ count_of (script first_line text.now) }
-    // an accepted text is, byte for byte, what that many records are written as
+    // an accepted text is, byte for byte, the written form of that many records
     ensures accepted { IfOk result (λ count. (rs : List Record) × IsScript rs text.now × (count ≡ length rs)) }
-    // the text that records are written as is accepted, and read as them
+    // the written form of permitted records is accepted, and read as those records
     ensures taken { (rs : List Record) → IsScript rs text.now → (script first_line text.now ≡ Ok rs) × (result ≡ Ok (length rs)) }
-    // the fault is the first one
-    ensures first { IfErr result (λ e. TextFault first_line text.now e) }
+    // a fault is reported exactly where it is the first one
+    ensures first { (e : RecordFault) → (result ≡ Err e) ↔ TextFault first_line text.now e }
     // no line before the first has a fault
     ensures lines { IfErr result (λ e. NamesLineFrom first_line e) }
 {

@@ -1,6 +1,8 @@
+pub mod Arguments
 pub mod Cuts
 pub mod Digits
 pub mod EndedLines
+pub mod FieldNumbers
 pub mod FirstFields
 pub mod FreeNumbers
 pub mod LineFields

@@ -1,6 +1,6 @@
 -- Texts that are short enough and finished. Assumes nothing.
-use Rattle.std.proofs.Common.{◌≡◌, ℕ, ◌+◌, ◌<◌, ◌≤◌, Bool, true, false, List, length, leb, if◌then◌else◌, Ok, Err, Result, refl, inl, inr, ◌⊎◌}
-use Rattle.std.proofs.lemmas.Bool.{leb-true, leb-false, le-leb}
+use Rattle.std.proofs.Common.{◌≡◌, ℕ, ◌+◌, ◌<◌, ◌≤◌, Bool, true, false, List, length, leb, if◌then◌else◌, Ok, Err, Result, refl, sym, ap, inl, inr, ◌⊎◌}
+use Rattle.std.proofs.lemmas.Bool.{leb-true, leb-false, le-leb, lt-leb}
 use Rattle.std.specs.List.{count_by}
 use Rattle.faults.specs.declared.record.RecordFault.{RecordFault}
 use Rattle.faults.specs.declared.record.RecordFault.TheVariants.{TooLong, Unfinished}
@@ -35,3 +35,10 @@ refused_at n bs e false ends short-is ends-is is = inl (cc (is), leb-false (leng
 
 pub whole_refused : (n : ℕ) (bs : List ℕ) (e : RecordFault) → whole n bs ≡ Err e → ((e ≡ TooLong) × (max_text < length bs)) ⊎ Unended n bs e
 whole_refused n bs e is = refused_at n bs e (leb (length bs) max_text) (finished bs) refl refl is
+
+-- the other way round
+pub too_long : (n : ℕ) (bs : List ℕ) → max_text < length bs → whole n bs ≡ Err TooLong
+too_long n bs long = rw (lt-leb (length bs) max_text long) refl
+
+pub unfinished : (n i : ℕ) (bs : List ℕ) → length bs ≤ max_text → finished bs ≡ false → i ≡ n + count_by is_newline bs → whole n bs ≡ Err (Unfinished i)
+unfinished n i bs short ends is = rw (le-leb (length bs) max_text short, ends) (ap (λ j. Err (Unfinished j)) (sym is))

@@ -7,6 +7,7 @@
 --     signed_at n k bs            the same with an optional leading minus
 --     WritesNumber n bs           bs is how n is written
 --     WritesSigned z bs           bs is how z is written
+--     IsNumber bs                 bs is a number
 use Rattle.std.specs.Prelude.{◌≡◌, ℕ, ◌≤◌, ℤ, pos, neg_ℤ, unsigned_abs, Bool, ◌&&◌, ◌||◌, ◌==◌, nat_lt, nat_le, List, length, drop, slice_index, Option, Some, None, Result, ok_or, if◌then◌else◌}
 use Rattle.std.specs.Option.{option_map}
 use Rattle.std.specs.Char.{is_ascii_digit}
@@ -48,3 +49,6 @@ WritesNumber n bs = (n ≤ max_number) × (bs ≡ decimal n)
 
 abbrev pub WritesSigned : ℤ → List ℕ → Type 0
 WritesSigned z bs = (unsigned_abs z ≤ max_number) × (bs ≡ signed_decimal z)
+
+abbrev pub IsNumber : List ℕ → Type 0
+IsNumber bs = (n : ℕ) × WritesNumber n bs

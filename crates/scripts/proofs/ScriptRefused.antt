@@ -1,20 +1,17 @@
--- What is wrong with a script, as the laws of scripts have it, is what its check reports. Assumes nothing.
-use Rattle.std.proofs.Common.{◌≡◌, ℕ, ◌+◌, ◌≤◌, Bool, true, false, eqb, ℤ, List, [], ◌∷◌, ◌++◌, length, map, None, Some, Option, Ok, Err, arith, refl, sym, ◌∙◌, ap, subst}
+-- What is wrong with a script, as the laws of scripts have it, is what its check reports, and nothing else is. Assumes nothing.
+use Rattle.std.proofs.Common.{◌≡◌, ◌↔◌, ℕ, ◌+◌, ◌-◌, ◌≤◌, Bool, true, false, eqb, ℤ, List, [], ◌∷◌, ◌++◌, length, map, slice_index_or, None, Some, Option, Ok, Err, Result, arith, refl, sym, ◌∙◌, ap, subst}
 use Rattle.std.proofs.lemmas.Bool.{eqb-true, eq-eqb}
 use Rattle.std.proofs.lemmas.List.{append-nil}
 use Rattle.std.specs.List.{AllByRecursion}
-use Rattle.boards.proofs.BoardFaults.{too_long, unfinished}
-use Rattle.boards.proofs.BoardLines.{three_args, one_arg}
-use Rattle.boards.proofs.LineFaults.{number_refused}
-use Rattle.boards.specs.Laws as B
 use Rattle.faults.specs.Results.{◌>>=◌}
 use Rattle.faults.specs.declared.field.FieldFault.TheVariants.{NotANumber}
 use Rattle.faults.specs.declared.record.RecordFault.{RecordFault}
 use Rattle.faults.specs.declared.record.RecordFault.TheVariants.{Field, TooLong, Unfinished, UnknownWord, FieldCount, NotPermitted, EndsInSession}
 use Rattle.scripts.proofs.Judged.{judged_written}
+use Rattle.scripts.proofs.ScriptLaws.{fault}
 use Rattle.scripts.proofs.ScriptLines.{content_of, fields_of_line, script_of_lines, lines_of_script}
 use Rattle.scripts.proofs.Words.{word_is, word_spelled}
-use Rattle.scripts.specs.Judgements.{arity, read_as, judged_as, judged, in_front, records_from, script}
+use Rattle.scripts.specs.Judgements.{arity, read_as, judged_as, judged, in_front, records_from, script, count_of}
 use Rattle.scripts.specs.Laws.{Reads, IsArgument, FirstNoNumber, LineFault, IsWhole, NoNewline, FaultyLine, TextFault}
 use Rattle.scripts.specs.Records.{kind_of, script_of, Writable}
 use Rattle.scripts.specs.States.{permits, after, Leads}
@@ -25,9 +22,11 @@ use Rattle.scripts.specs.declared.state.State.{State}
 use Rattle.scripts.specs.declared.state.State.TheVariants.{Rest, Session}
 use Rattle.scripts.specs.declared.word.Word.{Word}
 use Rattle.scripts.specs.declared.word.Word.TheVariants as W
+use Rattle.text.proofs.Arguments.{three_args, one_arg}
 use Rattle.text.proofs.Cuts.{Free}
 use Rattle.text.proofs.EndedLines.{lines_free, lines_of_front}
-use Rattle.text.proofs.WholeTexts.{whole_passes}
+use Rattle.text.proofs.FieldNumbers.{first_of_three}
+use Rattle.text.proofs.WholeTexts.{whole_passes, too_long, unfinished}
 use Rattle.text.proofs.Written.{signed_read}
 use Rattle.text.specs.Lines.{is_newline, lines, ended, fields}
 use Rattle.text.specs.Numbers.{signed_of}
@@ -45,11 +44,11 @@ step_refused n k v a f =
     let low : 2 ≤ k = f.argument in
     let high : k ≤ 2 = f.inside in
     let place : k ≡ 2 = omega (arith, low, high) in
-    let here : IsArgument W.Step a → ⊥ = subst (λ (j : ℕ). IsArgument W.Step (B.field j (v ∷ a ∷ [])) → ⊥) place f.here in
+    let here : IsArgument W.Step a → ⊥ = subst (λ (j : ℕ). IsArgument W.Step (slice_index_or (v ∷ a ∷ []) (j - 1) []) → ⊥) place f.here in
     step_at n a (signed_of a) refl here ∙ ap (λ j. Err (no_number n j)) (sym place)
 
 flip_refused : (n k : ℕ) (v a b c : List ℕ) → FirstNoNumber W.Flip (v ∷ a ∷ b ∷ c ∷ []) k → read_as W.Flip n (a ∷ b ∷ c ∷ []) ≡ Err (no_number n k)
-flip_refused n k v a b c f = number_refused n v a b c (λ x y z. Ok (R.Flip x y z)) k (record { argument = f.argument; inside = f.inside; here = f.here; before = f.before })
+flip_refused n k v a b c f = first_of_three n v a b c (λ x y z. Ok (R.Flip x y z)) k f.argument f.inside f.here f.before
 
 no_arguments : (k : ℕ) (w : Word) (v : List ℕ) (args : List (List ℕ)) → length args ≡ 0 → FirstNoNumber w (v ∷ args) k → ⊥
 no_arguments k w v args len f = let low : 2 ≤ k = f.argument in let high : k ≤ length (v ∷ args) = f.inside in omega (arith, low, high, len)
@@ -133,3 +132,11 @@ script_refused n bs TooLong f = ap (λ a. a >>= λ _. records_from Rest n (lines
 script_refused n bs (Unfinished i) f = ap (λ a. a >>= λ _. records_from Rest n (lines bs)) (unfinished n i bs f.0 f.1 f.2)
 script_refused n bs (EndsInSession i) f = by_lines n bs (EndsInSession i) f.0 (open_end n i bs f.1.0 f.1.1 f.1.2)
 script_refused n bs e f = by_lines n bs e f.0 (faulty_line n bs e f.1)
+
+-- an answer of the check
+was_refused : (n : ℕ) (bs : List ℕ) (e : RecordFault) (a : Result (List Record) RecordFault) → script n bs ≡ a → count_of a ≡ Err e → script n bs ≡ Err e
+was_refused n bs e (Ok rs) is refused = absurd (cc (refused))
+was_refused n bs e (Err d) is refused = let same : d ≡ e = cc (refused) in is ∙ ap Err same
+
+pub check_first : (n : ℕ) (bs : List ℕ) (e : RecordFault) → (count_of (script n bs) ≡ Err e) ↔ TextFault n bs e
+check_first n bs e = (λ refused. fault n bs e (was_refused n bs e (script n bs) refl refused), λ f. ap count_of (script_refused n bs e f))
