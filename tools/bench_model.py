@@ -80,7 +80,7 @@ def after_actions(bench, actions):
 
 
 def held(bench):
-    """The lattice that a bench holds: the opening, after the actions of S, and then the flips of Q."""
+    """What the bench holds, made anew from its opening and its ledger."""
     return after_flips(after_actions(bench, bench.standing), bench.flips)
 
 
@@ -88,7 +88,7 @@ def held(bench):
 
 
 def clock(bench):
-    """The sum of the counts of the steps that stand."""
+    """What the steps that stand add up to."""
     return sum(what for kind, what in bench.standing if kind == "step")
 
 
@@ -98,7 +98,7 @@ def counts(bench):
 
 
 def entries_used(bench):
-    """How many entries S and Q have together: one for a step, one for each flip."""
+    """How many entries are in use, by the actions of S and by the flips of Q."""
     of_actions = sum(1 if kind == "step" else len(what) for kind, what in bench.standing)
     return of_actions + len(bench.flips)
 
@@ -167,8 +167,8 @@ def flip_refusal(bench, handed, col, row, mask):
 # --- The seven calls: docs/BENCH.md, "Actions and the ledger" -------------------------------------
 
 # Each returns the bench afterwards, the answer (None if refused), and the refusal (None if accepted).
-# The answer is how many actions stand then; `open` and `close` return nothing but the bench, which is
-# written like this:
+# The answer is how many actions stand then. For a bench without a number, which `open` and `close`
+# return, it is this:
 GIVEN = "given"
 
 
@@ -280,7 +280,7 @@ BENCH = 3
 
 
 def cleared_and_closed(bench):
-    """The bench at rest: a session that is open is cleared and closed."""
+    """The bench at rest. Of a session that is open nothing stays."""
     if bench.state == SESSION:
         bench, _, _ = clear(bench, area(bench))
         bench, _, _ = close_session(bench)
@@ -319,7 +319,7 @@ class WayBack:
 
 
 def way_back(bench):
-    """The reverse script of a resting bench, run on a new bench with its map, opened on what it holds."""
+    """The way back from a resting bench: another one, opened where it is now, runs its reverse script."""
     script = reverse_script(bench)
     home = new_bench(bench.the_map, held(bench))
     home, made, fault = run(home, area(bench), script, 1)
@@ -366,9 +366,9 @@ def handed_over(bench, entry, second_length):
 
 
 def is_passed_over(bench, entry, second_length):
-    """Whether an entry is no call of the life.
+    """Whether an entry is skipped.
 
-    It is none where the state does not have the call, and where a call that takes cells would get
+    It is where the state does not have the call, and where a call that takes cells would get
     other cells than those of the opening and could not know it from their number.
     """
     word = entry.record[0]

@@ -29,8 +29,8 @@ def from_hex(width, height, phase, text):
 class Mover:
     """A bench that goes back by moving its lattice back and by making flips once more.
 
-    It keeps one list of entries, one for a step and one for a flip, and where in it each action ends;
-    nothing of it is taken from the ledger or from the model's bench.
+    Steps and flips are in one list, each an entry, beside which it is noted where each action ends.
+    Nothing of it is taken from the ledger or from the model's bench.
     """
 
     def __init__(self, the_map, opening):
@@ -170,7 +170,7 @@ def records_forth(bench):
 
 
 def check_way_back(bench):
-    """The reverse script of a resting bench ends on the opening, and the one from there takes it back."""
+    """The way back leads to the opening, and the way back from there leads to where the first one began."""
     back = bench_model.way_back(bench)
     records, fault = text_model.check_script(back.script, 1)
     check("the reverse script is a script", fault, None)
@@ -382,7 +382,7 @@ for bench, handed in product([in_session, almost_full, full_session, full_of_fli
     if handed == 8:
         check_call("a flip after it", after, ("flip", 3, 1, 9), 8, None)
 
-# open and close take no cells
+# how many cells are lent does not matter to open and close
 for handed in [0, 7, 8, 9]:
     check("open", call(some, ("open",), handed)[1:], ("given", None))
     check("close", call(in_session, ("close",), handed)[1:], ("given", None))

@@ -564,7 +564,7 @@ def any_number():
 
 
 def any_records(count):
-    """Records that the states permit, and that end at rest."""
+    """Any records, in an order that the check of a script accepts."""
     records = []
     rests = True
     for _ in range(count):
@@ -587,7 +587,7 @@ for count in range(300):
     text = text_model.script_written(records)
     check(f"written and read: {records}", check_script(text, 1), (records, None))
     check_script_in_other_ways(text)
-    # and damaged: what is accepted all the same is the writing of its records, too
+    # and damaged: where that is accepted, its records are to give it again when they are written
     if count % 5 == 1:
         for damage in text_vectors.DAMAGES:
             check_script_in_other_ways(damage(text))

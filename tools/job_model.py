@@ -81,7 +81,7 @@ def run_job(text, memory):
     bench = bench_model.new_bench(job.the_map, job.opening)
     area = bench_model.area(bench)
     bench, made, fault = bench_model.run(bench, area, job.script, job.script_line)
-    # nothing is written before the whole text is checked
+    # only now, as nothing is wrong with the text, is anything written
     if fault is None or fault[0] == bench_model.BENCH:
         memory[:area] = bench_model.held(bench).cells
     if fault is not None:

@@ -250,7 +250,7 @@ def cell_map(table):
 
 # --- Local rules: docs/MAPS.md, "Local rules" -----------------------------------------------------
 
-# A local rule is a function from a neighbourhood number, 0 to 511, to 0 or 1.
+# A local rule is a Python function here, which takes one of the 512 neighbourhood numbers and returns 0 or 1.
 
 RULE_SIZE = 512
 LARGEST_MASK = 511

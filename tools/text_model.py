@@ -57,7 +57,7 @@ def number_written(value):
 
 
 def all_fields(text, first):
-    """Every field of a text, with its line, its number and what ends it."""
+    """The fields of a text in order, each with its place and with what comes after it."""
     finished, rest = lines(text)
     ended = [(line, "newline") for line in finished]
     if rest is not None:

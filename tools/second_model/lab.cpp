@@ -50,7 +50,7 @@ Fault bench_fault(int number, std::size_t line) { return {of_bench, number, line
 
 struct Line {
     std::size_t number;
-    std::vector<std::string_view> fields;  // never none: an empty line has one empty field
+    std::vector<std::string_view> fields;  // at least one, also of a line without bytes
 
     std::string_view word() const { return fields.front(); }
 };
@@ -133,7 +133,7 @@ struct Lattice {
     int width = 0;
     int height = 0;
     int phase = 0;
-    std::vector<Byte> cells;  // row after row; bit 0 the present, bit 1 the past, the others free
+    std::vector<Byte> cells;  // row after row; of a cell the present weighs 1, the past 2, and the other bits are free
 
     Byte* row(int y) { return cells.data() + static_cast<std::size_t>(y) * static_cast<std::size_t>(width); }
 };
@@ -205,7 +205,7 @@ constexpr unsigned life_birth = 8;
 constexpr unsigned life_survival = 12;
 
 // XORs what Life gives into every past. Only presents are read, so the order of the cells is free.
-// On a side of 2 one cell is on both sides, and is counted for each.
+// Where a side is 2, the cell before and the cell after are the same one, and it adds to both.
 void answer_cells(Lattice& lattice) {
     const int width = lattice.width;
     std::array<int, most_side + 2> column{};  // presents of three cells; column x is at x + 1
