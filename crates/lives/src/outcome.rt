@@ -24,6 +24,7 @@ pub enum WayBack {
     InSession,
     /// The script was not written.
     Refused(ScriptRefusal),
+    /// The script was written, and was run on a third bench.
     Gone(Journey),
 }
 
