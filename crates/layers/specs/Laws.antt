@@ -44,7 +44,7 @@ module _ {f f' g g' : Lattice → Lattice} where
     backward_keeps = then_keeps g' f' b.backward_keeps a.backward_keeps;
   }
 
-  -- f as it looks through g
+  -- f conjugated by g
   pub between_laws : Reversible f f' → Reversible g g' → Reversible (between f g g') (between f' g g')
   between_laws a b = record {
     back_undoes_forward = between_undone f f' g g' a.forward_keeps b.forward_keeps a.back_undoes_forward b.back_undoes_forward b.forward_undoes_back;
