@@ -1,12 +1,12 @@
--- What is wrong with a text as a board, in the words of who writes it, apart from how a text is read.
---     RefusedStart w h p c    c is why w, h and p make no start record: it is so, and none of the causes that come before it
+-- The faults of a text that should begin with a board, in terms of its lines and fields and not of how it is read.
+--     RefusedStart w h p c    c is the first cause why w, h and p make no start record: it applies, and none before it does
 --     field k fs              field k of the fields fs
 --     Counted w k fs          the first of the fields fs is the word w, and there are k of them
 --     LineFault w k F n fs e  e is what is wrong with a line with the fields fs, which is line n and should have k fields, beginning with the word
 --                             w: the word, or else the number of fields, or else what F says of them
 --     IsNumber bs             bs is a number
---     FirstNoNumber fs k      field k is the first of the numbers on a board's line with the fields fs that is none
---     NumbersFault n fs e     e is what is wrong with these numbers: one is none, or else they make no start record
+--     FirstNoNumber fs k      on a board's line with the fields fs, field k is the first that should be a number and is not
+--     NumbersFault n fs e     e is what is wrong with these fields: one is not a number, or else they make no start record
 --     BoardLineFault n fs e   e is what is wrong with the line of a board
 --     IsHexDigit b            the byte b is `0` to `9` or `a` to `f`
 --     IsRow w bs              bs has two such digits for each of w cells

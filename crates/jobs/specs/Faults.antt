@@ -1,4 +1,4 @@
--- What is wrong with a text as a job, in the words of who writes and runs it, apart from how a text is read.
+-- The faults of a text that should be a job, in terms of its lines and fields and not of how it is read.
 --     NameFault n fs e       e is what is wrong with the name on a map line with the fields fs, which is line n: no map has it
 --     MapLineFault n fs e    e is what is wrong with that line
 --     FaultyBoard bs e       the text bs has a map line, and e is what is wrong with the text below it as one that begins with a board
