@@ -8,7 +8,7 @@ pub enum Answer {
     Skipped,
     /// The call was `open` or `close`, which are never refused and return the bench alone.
     Given,
-    /// The call was accepted; so many actions stand now.
+    /// The call was accepted; this many actions stand now.
     Standing(usize),
     /// The call was refused, for this cause.
     Refused(BenchRefusal),
