@@ -41,7 +41,7 @@ pub record Lived (f g : Lattice → Lattice) (s : Start) (es : List Event) (old 
   -- the lattice held is that of the opening, changed by each action that stands, the earliest first, and then by the flips pending in the session
   pub held_then : held o.start new.cells.now ≡ life_lattice f g (opening s old) (other old) es
   pub counted : o.counts ≡ counts (life_ledger (opening s old) (other old) es) (phase_of o.start)
-  -- the mirror has a life of its own, over the reversed map and with the mirrored events, and ends up holding the same
+  -- the mirror has a life of its own, over the reversed map and with the mirrored events, and holds the same in the end
   pub mirror : held o.mirror_start new.mirror.now ≡ life_lattice g f (opening s old) (other old) (map mirror_event es)
   pub mirror_counted : o.mirror_counts ≡ counts (life_ledger (opening s old) (other old) (map mirror_event es)) (phase_of o.mirror_start)
   pub same : held o.mirror_start new.mirror.now ≡ held o.start new.cells.now

@@ -13,9 +13,9 @@ use lattice::start::Start;
 use layers::reverse::Reverse;
 
 /// Carries out the life of a bench: makes the calls of the events on a bench over `map`, and on its mirror, a bench over the reversed map that starts
-/// with the same cells and gets every step count negated. An event that is not a call of the life is skipped. Unless a session is left open or `script`
-/// is too short, a third bench over `map` gets a copy of the resulting cells and runs the reverse script. Refused with `Cells`, before anything is done,
-/// if `cells`, `mirror` or `home` has the wrong length.
+/// with the same cells and gets every step count negated. An event that is not a call of the life is skipped. Unless a session is left open or
+/// `script` is too short, a third bench over `map` gets a copy of the resulting cells and runs the reverse script. Refused with `Cells`, before
+/// anything is done, if `cells`, `mirror` or `home` has the wrong length.
 pub fn live<M: Map>(
     map: &M,
     start: Start,

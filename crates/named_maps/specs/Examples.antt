@@ -11,7 +11,7 @@
 --     lopsided               a block table that is changed by each rotation and reflection of the square: entry v is 7 v + 3 modulo 16
 --     cycle, cycle_back      the cell table that goes from each number to the next, and from the last to the first; and the one that goes back
 --     seen_through f         f conjugated by the cell map of cycle
---     ExamplesComeOut        each example comes out as it was worked out by hand
+--     ExamplesComeOut        each example gives the result that was worked out by hand
 --     stands_at q ds l       whether the lattice l is at phase q and has the cells ds
 --     Lands f n p cs q ds r  r says whether f leads from the square with the cells cs at phase p to the cells ds at phase q; if the limits permit no
 --                            such square, r says no. Cited by an inner function alone

@@ -24,7 +24,7 @@ pub fn staggered(table: BlockTable) -> Conjugate<BlockMap, RowShift>
     Conjugate::new(BlockMap::new(table), RowShift::new())
 }
 
-/// The block map of a table, in a frame that goes one cell east with each move.
+/// The block map of a table, in a frame of reference that moves one cell east with each move.
 pub fn drifting(table: BlockTable) -> Then<BlockMap, Reverse<RowShift>>
     ensures forward { ⟦<Then<BlockMap, Reverse<RowShift>> as Map>⟧.forward result ≡ drifting_forward (entries_of table) }
     ensures backward { ⟦<Then<BlockMap, Reverse<RowShift>> as Map>⟧.backward result ≡ drifting_backward (inverse_of table) }
