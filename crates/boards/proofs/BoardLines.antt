@@ -47,7 +47,7 @@ numbers_read n a b c l is =
     let fields : (codes "board" ∷ a ∷ b ∷ c ∷ []) ≡ codes "board" ∷ decimal x.0 ∷ decimal y.0 ∷ decimal z.0 ∷ [] = cc (u.1, v.1, w.1) in
     subst (StartRead (codes "board" ∷ a ∷ b ∷ c ∷ [])) s.1 (record { written = fields; accepted = s.0; no_cells = refl })
 
--- so many fields one by one
+-- three fields, one by one
 pub three_args : (args : List (List ℕ)) → length args ≡ 3 → (a : List ℕ) × (b : List ℕ) × (c : List ℕ) × (args ≡ a ∷ b ∷ c ∷ [])
 three_args [] len = absurd (omega arith)
 three_args (a ∷ []) len = absurd (omega arith)

@@ -15,8 +15,8 @@
 --     NextFault F n bs e      e is what is wrong with the first line of bs, which is line n: it is missing, or else what F says of its fields
 --     first_lines l r         the line of a board with sides and phase of l, and r rows with the cells of l
 --     FaultyRow n bs e        the text bs has the first lines of a board, its line being line n, and e is what is wrong with the row after them
---     BoardFault n bs e       e is what is wrong with the text bs as one that begins with a board, its first line being line n: it is so, and
---                             nothing before it is wrong
+--     BoardFault n bs e       e is what is wrong with the text bs as one that begins with a board, its first line being line n: it applies,
+--                             and nothing before it is wrong
 --     ReadFault n k bs e      the same where the board is read into a memory of k bytes
 use Rattle.std.specs.Prelude.{◌≡◌, ◌≢◌, ◌⊎◌, ℕ, ◌+◌, ◌-◌, ◌*◌, ◌<◌, ◌≤◌, List, [], ◌++◌, length, codes, false, IsTrue, slice_index_or}
 use Rattle.std.specs.List.{AllByRecursion, count_by}

@@ -103,7 +103,7 @@ impl<'t> Records<'t> {
         self.state
     }
 
-    /// The next record, or the first fault of its line. At the end of the text, `None` at rest and a fault in session. Only a record is read past.
+    /// The next record, or the first fault of its line. At the end of the text, `None` at rest and a fault in session. Only a record moves the reader.
     #[tactic(auto, using(crate::proofs::Lefts::left_after))]
     pub fn next_record(&mut self) -> Result<Option<Record>, RecordFault>
         ensures answer { result ≡ next_of self.old }
