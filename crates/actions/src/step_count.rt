@@ -1,4 +1,4 @@
-// Counts of steps.
+//! Counts of steps.
 ghost use Rattle.std.specs.Prelude.{◌≡◌, neg_ℤ, IsTrue, if◌then◌else◌};
 ghost use Rattle.actions.specs.Limits.{is_step_count};
 

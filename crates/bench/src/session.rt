@@ -68,7 +68,7 @@ impl<'m, M: Map> Session<'m, M> {
         Ok(self.journal.standing())
     }
 
-    /// Takes back the flips of the session, and goes on with none. Returns how many actions stand. Refused only with `Cells`.
+    /// Takes back the flips of the session, which stays open. Returns how many actions stand. Refused only with `Cells`.
     pub fn clear(&mut self, cells: &mut [u8]) -> Result<usize, BenchRefusal>
         ensures answer { result ≡ answered (session_handed self.old cells.old) Clear (session_ledger self.old) }
         ensures ledger { session_ledger self.new ≡ booked_by (session_handed self.old cells.old) Clear (session_ledger self.old) }

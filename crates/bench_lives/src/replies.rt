@@ -1,4 +1,4 @@
-//! All that is printed of a life.
+//! All that is printed for a life.
 use crate::shown::{show_board, show_counts, show_event};
 use any_bench::answer::Answer;
 use anyhow::Context;

@@ -1,4 +1,4 @@
-//! What is printed of a call, and of a lattice.
+//! What is printed for a call, and for a lattice.
 use any_bench::answer::Answer;
 use anyhow::Context;
 use bench::bench::Counts;

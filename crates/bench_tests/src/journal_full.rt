@@ -6,7 +6,7 @@ use lattice::start::Start;
 use named_maps::blocks::bbm;
 use std::test::Fail;
 
-// Makes so many steps, by 1 and -1 in turn.
+// Makes this many steps, by 1 and -1 in turn.
 fn make_steps<M: Map>(bench: &mut Bench<'_, M>, count: u32, cells: &mut [u8]) -> Result<(), Fail> {
     for made in 0..count {
         bench.step(if made % 2 == 0 { 1 } else { -1 }, cells)?;

@@ -52,7 +52,7 @@ fn go_out<'m, M: Map>(
     Ok(bench)
 }
 
-// Runs the bench's reverse script on another bench over `map`, which takes over the cells. Returns the start record that it ends with.
+// Runs the bench's reverse script on another bench over `map`, with the same cells. Returns the start record that it ends with.
 fn go_home<M: Map>(
     rt: &(impl Print + Alloc),
     map: &M,

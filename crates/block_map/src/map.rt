@@ -15,8 +15,8 @@ use tables::block::BlockTable;
 /// The block map of a table.
 ///
 /// Such block rules, among them the billiard ball model, Critters and Tron, are described in Cellular Automata Machines by T. Toffoli and
-/// N. Margolus (1987) and in Physics-like Models of Computation by N. Margolus (1984). If one of these has another table for a name, the table
-/// of the crate `tables` counts.
+/// N. Margolus (1987) and in Physics-like Models of Computation by N. Margolus (1984). If one of these has another table under a name, the
+/// table of the crate `tables` applies.
 #[derive(Clone, Copy)]
 pub struct BlockMap {
     table: BlockTable,

@@ -121,7 +121,7 @@ board_fault n bs e is = elim (went_wrong (whole n bs) (λ _. board_from n (lines
   | inr u ↦ let good = whole_accepted n bs u.1 in placed n bs e good.0 good.1 (fault_of_lines n bs e good.1 u.2)
 ]
 
--- the other way round: so many rows that are read, and then one that is not
+-- the converse: r rows that are read, and then one that is not
 rows_on : (w r k n : ℕ) (ls : List (List ℕ)) (cs : List ℕ) (e : RecordFault) → rows_from w r n ls ≡ Ok cs → rows_from w k (n + r) (drop r ls) ≡ Err e → rows_from w (r + k) n ls ≡ Err e
 rows_on w zero k n ls cs e read wrong =
     let none : zero + k ≡ k = omega arith in

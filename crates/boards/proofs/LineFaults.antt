@@ -53,7 +53,7 @@ module _ {A : Type 0} (w : List ℕ) (k : ℕ) (F : ℕ → List (List ℕ) → 
   line_fault [] e some no_word no_count below is = let same : UnknownWord n ≡ e = cc (is) in subst (LineFault w (k + 1) F n []) same (refl, λ x. some (sym x))
   line_fault (v ∷ args) e some no_word no_count below is = at_word v args e (bytes_eq v w) refl (λ word len wrong. placed (v ∷ args) e (no_word (v ∷ args)) (no_count (v ∷ args)) (word, omega (arith, len)) (below v args len wrong)) is
 
-  -- the other way round
+  -- the converse
   not_the_word : (v : List ℕ) (args : List (List ℕ)) (yes : Bool) → bytes_eq v w ≡ yes → v ≢ w → line_at w k n (v ∷ args) f ≡ Err (UnknownWord n)
   not_the_word v args true same_word other = absurd (other ((bytes_eq-Decides v w).0 same_word))
   not_the_word v args false same_word other = rw same_word refl
@@ -114,7 +114,7 @@ module _ (n : ℕ) (v a b c : List ℕ) where
     | inr x ↦ second_fault x.0 e (number_was n 2 x.0 a x.1) x.2
   ]
 
--- the other way round
+-- the converse
 module _ (n : ℕ) (v a b c : List ℕ) where
   start_refused : (x : StartRefusal) → NoStart (v ∷ a ∷ b ∷ c ∷ []) x → numbers_at n a b c ≡ Err (Start x n)
   start_refused x s = rw (number_given n 2 s.width a s.is_width, number_given n 3 s.height b s.is_height, number_given n 4 s.phase c s.is_phase, start_is_refused s.width s.height s.phase x s.refused) refl

@@ -1,11 +1,11 @@
--- What is wrong with a text as a board, in the words of who writes it, apart from how a text is read.
---     RefusedStart w h p c    c is why w, h and p make no start record: it is so, and none of the causes that come before it
+-- The faults of a text that should begin with a board, in terms of its lines and fields and not of how it is read.
+--     RefusedStart w h p c    c is the first cause why w, h and p make no start record: it applies, and none before it does
 --     field k fs              field k of the fields fs
 --     Counted w k fs          the first of the fields fs is the word w, and there are k of them
 --     LineFault w k F n fs e  e is what is wrong with a line with the fields fs, which is line n and should have k fields, beginning with the word
 --                             w: the word, or else the number of fields, or else what F says of them
---     FirstNoNumber fs k      field k is the first of the numbers on a board's line with the fields fs that is none
---     NumbersFault n fs e     e is what is wrong with these numbers: one is none, or else they make no start record
+--     FirstNoNumber fs k      on a board's line with the fields fs, field k is the first that should be a number and is not
+--     NumbersFault n fs e     e is what is wrong with these fields: one is not a number, or else they make no start record
 --     BoardLineFault n fs e   e is what is wrong with the line of a board
 --     IsHexDigit b            the byte b is `0` to `9` or `a` to `f`
 --     IsRow w bs              bs has two such digits for each of w cells
@@ -14,8 +14,8 @@
 --     NextFault F n bs e      e is what is wrong with the first line of bs, which is line n: it is missing, or else what F says of its fields
 --     first_lines l r         the line of a board with sides and phase of l, and r rows with the cells of l
 --     FaultyRow n bs e        the text bs has the first lines of a board, its line being line n, and e is what is wrong with the row after them
---     BoardFault n bs e       e is what is wrong with the text bs as one that begins with a board, its first line being line n: it is so, and
---                             nothing before it is wrong
+--     BoardFault n bs e       e is what is wrong with the text bs as one that begins with a board, its first line being line n: it applies,
+--                             and nothing before it is wrong
 --     ReadFault n k bs e      the same where the board is read into a memory of k bytes
 use Rattle.std.specs.Prelude.{◌≡◌, ◌≢◌, ◌⊎◌, ℕ, ◌+◌, ◌-◌, ◌*◌, ◌<◌, ◌≤◌, List, [], ◌++◌, length, codes, false, IsTrue, slice_index_or}
 use Rattle.std.specs.List.{AllByRecursion, count_by}

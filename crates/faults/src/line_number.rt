@@ -1,10 +1,10 @@
-// The number of a line.
+//! The number of a line.
 ghost use Rattle.std.specs.Prelude.{◌≡◌, ℕ, ◌+◌, ◌-◌, ◌≤◌, ◌^◌};
 
 use std::marker::Model;
 
 /// The number that the first line of a text has: 1, or more where the text is part of another and lines come before it. It is never 0, which a report
-/// has where a fault is of no line.
+/// has where a fault concerns no line.
 #[derive(Clone, Copy, PartialEq, Eq, Debug)]
 pub struct LineNumber {
     // how many lines come before
@@ -27,7 +27,7 @@ impl LineNumber {
         LineNumber { before: 0 }
     }
 
-    /// The number of the line after so many others.
+    /// The number of the line after this many others.
     pub fn after(lines: u32) -> LineNumber
         ensures { result ≡ lines + 1 }
     {

@@ -40,7 +40,7 @@ pub enum RunFault {
     /// The text is not a script, so no record was made.
     #[error("{0}")]
     Record(RecordFault),
-    /// The bench refuses the record on this line, or the cells, which are checked before all records and count as line 0.
+    /// The bench refused the record on this line; or, with line 0, the cells, which are checked before the first record.
     #[error("line {line}: {cause}")]
     Bench { cause: BenchRefusal, line: usize },
 }

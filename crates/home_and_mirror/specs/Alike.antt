@@ -1,4 +1,4 @@
--- What is printed of the comparisons.
+-- What is printed for the comparisons.
 --     yes_or_no b                          b as a word
 --     home_lines board clock               whether the way back ends on the opening board, and whether with the opposite clock
 --     mirror_lines cells phase counts clock     whether the mirror has the bench's cells, phase and counts of actions, and the opposite clock

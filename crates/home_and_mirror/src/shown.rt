@@ -1,4 +1,4 @@
-//! What is printed of the way back and of the mirror.
+//! What is printed for the way back and for the mirror.
 use crate::alike::{HomeAlike, MirrorAlike};
 use anyhow::{Context, bail};
 use boards::board_text::board_text;

@@ -1,4 +1,4 @@
-// What an output holds of a job when input, output or memory fails on the way.
+//! What an output holds after a job is carried, even if the input, the output or memory fails partway.
 use crate::streams::{Input, Output};
 use job_texts::carry::{CarryError, carry};
 use linked_list_allocator::LocalHeap;
@@ -10,7 +10,7 @@ const JOB: &[u8] = b"map\tbbm\nboard\t2\t2\t0\nrow\t0100\nrow\t0000\nstep\t1\n";
 
 const PRINTED: &[u8] = b"done\t1\t1\t1\t0\nboard\t2\t2\t1\nrow\t0000\nrow\t0001\n";
 
-// What is in the output before.
+// What the output holds beforehand.
 const BEFORE: &[u8] = b"before\n";
 
 fn whole(job: &[u8]) -> Input<'_> {
@@ -22,7 +22,7 @@ fn whole(job: &[u8]) -> Input<'_> {
     }
 }
 
-// An output that has room for so many bytes more than it holds.
+// An output with room for this many more bytes than it holds.
 fn output(room: usize, heap: Global) -> Result<Output, AllocError> {
     Ok(Output {
         held: Vec::from_slice(heap, BEFORE)?,
@@ -107,7 +107,7 @@ fn a_beginning_is_written_if_the_output_fails(rt: HostRuntime) -> Result<(), Fai
     Ok(())
 }
 
-// The heap grows by the least that it can hand out, so each allocation is once the first that fails.
+// The heap grows by the smallest block that it can allocate, so each allocation is in turn the first to fail.
 #[test]
 fn nothing_is_written_if_memory_runs_out(rt: HostRuntime) -> Result<(), Fail> {
     let (mut unread, mut unprinted, mut carried) = (false, false, false);

@@ -22,7 +22,7 @@ fn a_job_that_its_text_refuses_writes_nothing(rt: HostRuntime) {
     }
 }
 
-// The step stays; the flip of the session that the refusal cuts short is taken back.
+// The step stays; the flip of the session that the refusal interrupts is taken back.
 #[test]
 fn a_job_that_is_refused_at_a_record_keeps_the_records_before(rt: HostRuntime) {
     let at_rest = b"map\tbbm\nboard\t2\t2\t0\nrow\t0100\nrow\t0000\nstep\t1\nundo\nundo\n";

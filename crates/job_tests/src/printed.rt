@@ -1,4 +1,4 @@
-//! What is printed of a job.
+//! What is printed for a job.
 use job_texts::lab_text::lab_text;
 use std::test::Fail;
 

@@ -1,10 +1,10 @@
-// An input and an output that go on in small pieces, each after an interruption, and that may fail on the way.
+//! An input and an output that transfer small pieces, each after an interruption, and that may fail partway.
 ghost use Rattle.std.specs.Prelude.{Some};
 
 use std::io;
 use std::io::{ErrorKind, Read, Write};
 
-// Gives what is left, at most so many bytes at a call; then it fails, or is at its end.
+// Gives what is left, at most `at_once` bytes per call; then it fails, or is at its end.
 #[derive(Drop)]
 pub(crate) struct Input<'a> {
     pub(crate) left: &'a [u8],
@@ -29,7 +29,7 @@ impl Read for Input<'_> {
     }
 }
 
-// Takes at most so many bytes at a call, until it holds as many as it has room for; then it fails, or takes no more.
+// Takes at most `at_once` bytes per call until it holds `room` bytes; then it fails, or takes no more.
 #[derive(Drop)]
 pub(crate) struct Output {
     pub(crate) held: Vec<u8>,

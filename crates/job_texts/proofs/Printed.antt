@@ -1,4 +1,4 @@
--- What is printed of a job that was made. Assumes nothing.
+-- What is printed for a job that was made. Assumes nothing.
 use Rattle.std.proofs.Common.{◌≡◌, ℕ, ◌*◌, ◌≤◌, List, ◌++◌, length, take, drop, Ok, Err, Result, arith, refl, sym, ◌∙◌, ap, ap₂, subst}
 use Rattle.std.proofs.lemmas.List.{take_at, length-append}
 use Rattle.boards.specs.Boards.{board_text}

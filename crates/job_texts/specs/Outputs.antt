@@ -1,6 +1,6 @@
 -- What an output holds after an error.
---     AppendsProperPrefix old new text   the bytes of an output, if they are known, grow by a beginning of the text, perhaps an empty one, and not by all of it
---     OutputAfter e input old new        what became of an output after the error e, where the input's bytes are known or not
+--     AppendsProperPrefix old new text   the bytes of an output, if they are known, grow by a proper prefix of the text, perhaps an empty one
+--     OutputAfter e input old new        what the output holds after the error e, whether or not the input's bytes are known
 use Rattle.std.specs.Prelude.{ℕ, ◌<◌, List, length, take, Option, IfSome}
 use Rattle.std.specs.Io.KnownBytes.{Appends, Keeps}
 use Rattle.job_texts.specs.Texts.{lab_text}

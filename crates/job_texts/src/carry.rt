@@ -1,4 +1,4 @@
-// The program `lab`, over any input and output.
+//! The program `lab`, over any input and output.
 ghost use Rattle.std.specs.Prelude.{◌≡◌, IfErr, IfSome, OnOk};
 ghost use Rattle.std.specs.Io.KnownBytes.{Appends};
 ghost use Rattle.job_texts.specs.Outputs.{OutputAfter};
@@ -37,8 +37,8 @@ impl From<AllocError> for CarryError {
 
 /// Reads a job and writes all that is printed for it, and nothing else.
 ///
-/// An error is the input's, the output's, or is that memory runs out, as [`CarryError`] tells; the contract cannot say when
-/// these happen, but what the output then holds.
+/// Fails if the input fails, the output fails or memory runs out; [`CarryError`] says which. The contract does not say when that happens, but it does
+/// say what the output holds afterwards.
 pub fn carry<R: Read + Drop, W: Write, A: Allocator + Copy>(
     input: R,
     output: &mut W,

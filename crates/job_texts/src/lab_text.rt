@@ -37,7 +37,7 @@ fn made_text<A: Allocator + Copy>(
     Ok(text)
 }
 
-// What is printed of a job that is run in this memory.
+// What is printed for a job that is run in this memory.
 #[tactic(auto, using(crate::proofs::Printed::cells_inside, crate::proofs::Printed::whole_held, crate::proofs::Printed::text_is))]
 fn text_in<A: Allocator + Copy>(
     job: &[u8],

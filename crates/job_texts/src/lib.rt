@@ -1,4 +1,4 @@
-//! Reading a job, and what is printed of it.
+//! Reading a job, and what is printed for it.
 #![tactic(auto)]
 
 pub mod carry;

@@ -1,4 +1,4 @@
-// Writing a text.
+//! Writing a text.
 ghost use Rattle.std.specs.Prelude.{◌≢◌, ◌<◌, ◌≤◌, IfOk, IfErr, OnErr, OnOk, length, take};
 ghost use Rattle.std.specs.Io.KnownBytes.{Appends, Keeps};
 ghost use Rattle.std.specs.IoError.{error_kind};
@@ -7,7 +7,7 @@ ghost use Rattle.job_texts.specs.Outputs.{AppendsProperPrefix};
 use std::io;
 use std::io::{ErrorKind, Write};
 
-// Writes some of the text, and returns how many bytes. An interrupted write is tried again, and one that takes nothing is an error.
+// Writes some of the text, and returns how many bytes. An interrupted write is retried, and one that takes nothing is an error.
 fn write_some<W: Write>(output: &mut W, text: &[u8]) -> io::Result<usize>
     ensures some { IfOk result (λ n. 0 < n) }
     ensures within { IfOk result (λ n. n ≤ length text.now) }
@@ -31,8 +31,7 @@ fn write_some<W: Write>(output: &mut W, text: &[u8]) -> io::Result<usize>
 
 /// Writes all of the text.
 ///
-/// An interrupted write is tried again. An error is the output's, or is that it takes no more bytes; the contract cannot
-/// say when either happens.
+/// An interrupted write is retried. Fails if the output fails or takes no more bytes; the contract does not say when.
 #[tactic(auto, using(crate::proofs::PartsWritten::one_part_more))]
 pub fn write_text<W: Write>(output: &mut W, text: &[u8]) -> io::Result<()>
     ensures ok { OnOk result (Appends (W.contents output.old) (W.contents output.new) text.now) }

@@ -1,4 +1,4 @@
-//! What is printed of one job.
+//! What is printed for one job.
 use crate::case::Case;
 use faults::report::Report;
 use job_texts::lab_text::lab_text;

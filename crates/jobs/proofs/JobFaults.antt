@@ -120,7 +120,7 @@ job_fault k bs e is = elim (went_wrong (whole 1 bs) (λ u. on_first map_at 1 (li
       ]
 ]
 
--- the other way round
+-- the converse
 by_parts : (k : ℕ) (bs : List ℕ) → IsWhole bs → job k bs ≡ (on_first map_at 1 (lines bs) >>= λ m. job_below k m (below_first bs))
 by_parts k bs w = ap (λ a. a >>= λ u. on_first map_at 1 (lines bs) >>= λ m. job_below k m (below_first bs)) (whole_passes 1 bs w.0 w.1)
 

@@ -58,7 +58,7 @@ module _ (f g : Lattice → Lattice) where
   split s [] n c is = absurd (cc (is))
   split s (r ∷ rs) n c is = split_at s r rs n c (answered_at r s) refl (λ m below. split (after_call f g r s) rs m c below) is
 
-  -- the other way round
+  -- the converse
   accepted_at : (a : Answer) (d : Option (ℕ × BenchRefusal)) → here_or a d ≡ None → ((b : Option (ℕ × BenchRefusal)) → here_or a b ≡ one_later b) × (d ≡ None)
   accepted_at (Refused e) d is = absurd (cc (is))
   accepted_at Skipped d is = (λ b. refl, earlier d is)

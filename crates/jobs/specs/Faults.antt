@@ -1,12 +1,12 @@
--- What is wrong with a text as a job, in the words of who writes and runs it, apart from how a text is read.
+-- The faults of a text that should be a job, in terms of its lines and fields and not of how it is read.
 --     NameFault n fs e       e is what is wrong with the name on a map line with the fields fs, which is line n: no map has it
 --     MapLineFault n fs e    e is what is wrong with that line
 --     FaultyBoard bs e       the text bs has a map line, and e is what is wrong with the text below it as one that begins with a board
 --     HasBoard bs l more     the text bs has a map line, below it the board of l, which is within the limits, and below that the text more
 --     NoRoom k bs            it has a board whose cells have no room in a memory of k bytes
 --     FaultyScript k bs e    it has a board whose cells have room, and e is what is wrong with the text below that as a script
---     JobFault k bs e        e is what is wrong with the text bs as a job, where the cells memory has k bytes: it is so, and nothing before it is
---                            wrong
+--     JobFault k bs e        e is what is wrong with the text bs as a job, where the cells memory has k bytes: it applies, and nothing before it
+--                            is wrong
 --     RefusedRecord k bs c i   the text bs is a job, whose cells have room. Of its records some are made, one after another, and the next one, which is on line i,
 --                            is refused by the bench for the cause c
 --     JobRunFault k bs e     e is why the job bs is not run to its end: what is wrong with its text, or the first record that the bench refuses

@@ -3,7 +3,7 @@
 --     map_at n fs            the map that the fields fs of line n name, or the line's first fault: it has the word `map` and one field after it
 --     Job                    a map, a lattice, and the records of a script
 --     if_room k l            the lattice l, if a memory of k bytes has room for its cells; else the fault that it is too short
---     board_in k bs          the lattice whose board bs, the text from line 2 on, begins with, if there is room for its cells; or the first fault
+--     board_in k bs          the lattice of the board with which bs, the text from line 2 on, begins, if its cells have room; or the first fault
 --     script_line l          the line on which a script begins, after the map line and the board of l
 --     job_below k m bs       the job over the map m whose board and script are bs, the text from line 2 on; or the first fault. The script begins after the bytes
 --                            that the board is written as: each board has only one text

@@ -1,4 +1,4 @@
--- Jobs in the words of those who write and run them, apart from how a text is read. (Which actions stand is read from `outcome`.)
+-- Laws of jobs that do not refer to how a text is read. (Which actions stand is taken from `outcome`.)
 --     map_line m              the line that names the map m
 --     job_text j              the text of the job j: the line of its map, its board, its script
 --     IsJob j bs              bs is the text of the job j: its board is within the limits, the states permit its records in a row, from rest to rest, their

@@ -1,7 +1,8 @@
 -- The outcome of a job.
 --     first_scene j     what is held before the first record: an empty ledger, and the lattice of the job j
 --     answer j          the result of running its records: how many were made, or the fault of the first that is refused
---     outcome j         what is held in the end: the records were made, or those before the first refusal, and a session that it cut short has left no flip
+--     outcome j         what is held in the end, after all records or those before the first refused one; a session that the refusal interrupts leaves
+--                       no flip
 use Rattle.std.specs.Prelude.{ℕ, Result, Ok}
 use Rattle.any_bench.specs.Scenes.{Scene}
 use Rattle.faults.specs.declared.run.RunFault.{RunFault}

@@ -1,4 +1,4 @@
--- What is printed of a job whose records were all made.
+-- What is printed for a job whose records were all made.
 --     done_text n c     the word `done` and, each after a tab and in decimal, four numbers: n, the number of records that were made; and of the counts c
 --                       the clock, the number of actions that stand, and that of undone ones
 use Rattle.std.specs.Prelude.{List, ℕ, ℤ, ◌++◌, codes}

@@ -10,7 +10,7 @@ use actions::step_count::StepCount;
 pub enum Entry {
     /// A step by this count, which is negative for a step back.
     Step(StepCount),
-    /// An edit with so many flips.
+    /// An edit with this many flips.
     Edit(u16),
 }
 

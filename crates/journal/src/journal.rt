@@ -142,7 +142,7 @@ impl Journal {
         self.undone = 0;
     }
 
-    /// Adds a step, and forgets what was undone. Refused with `StepCount`, then with `JournalFull`.
+    /// Adds a step, and forgets what was undone. Refused only with `JournalFull`, and then nothing changes.
     pub fn book_step(&mut self, count: StepCount) -> Result<(), BenchRefusal>
         ensures answer { result ≡ unless (if_room (entries (standing_of self.old))) tt }
         ensures standing { standing_of self.new ≡ if_accepted (if_room (entries (standing_of self.old))) (standing_of self.old ++ (Step (count_of count) ∷ [])) (standing_of self.old) }

@@ -7,7 +7,7 @@ use Rattle.lattice.specs.Starts.{held, StartOf}
 use Rattle.lattice.specs.declared.start.Start.{Start}
 use Rattle.lattice.proofs.Wholes.{same_shape, same_shape_trans}
 
--- a turn of a loop that makes one move in each turn
+-- an iteration of a loop that makes one move in each iteration
 pub one_more : (f : Lattice → Lattice) (n : ℕ) (first here next : Lattice) → here ≡ repeated n f first → next ≡ f here → next ≡ repeated (n + 1) f first
 one_more f n first here next reached moved = moved ∙ ap f reached ∙ rw add-one refl
 
@@ -35,7 +35,7 @@ repeated_keeps f k n = record {
     partial zero l w part = refl
     partial (suc n) l w part = ap f (partial n l w part) ∙ k.partial l w part
 
--- as many moves back as were made forward lead home
+-- as many moves back as were made forward restore the lattice
 pub repeated_undone : (f g : Lattice → Lattice) → Keeps f → UndoneBy f g → (n : ℕ) (l : Lattice) → Within l → repeated n g (repeated n f l) ≡ l
 repeated_undone f g keeps undoes zero l w = refl
 repeated_undone f g keeps undoes (suc n) l w =
@@ -46,7 +46,7 @@ repeated_undone f g keeps undoes (suc n) l w =
 pub home_again : (f g : Lattice → Lattice) → Keeps f → UndoneBy f g → (n : ℕ) (first far last : Lattice) → Within first → far ≡ repeated n f first → last ≡ repeated n g far → last ≡ first
 home_again f g keeps undoes n first far last w out back = back ∙ ap (repeated n g) out ∙ repeated_undone f g keeps undoes n first w
 
--- what is known at the turning point, where the start record s and the cells cs make up `far`
+-- what is known after the moves forward, when the start record s and the cells cs make up `far`
 pub far_start : (far : Lattice) (s : Start) (cs : List ℕ) → held s cs ≡ far → StartOf far s
 far_start far s cs e = ap (λ l. held s l.cells) (sym e) ∙ e
 

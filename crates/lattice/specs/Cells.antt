@@ -1,4 +1,4 @@
--- The cells of a lattice, which lie row after row, and what the byte of a cell says. Its lowest bit tells whether the cell is set now, which is
+-- The cells of a lattice, which lie row after row, and what the byte of a cell says. Its lowest bit says whether the cell is set now, which is
 -- its present, and the next bit whether it was set before, which is its past. Six bits are free.
 --     cell w cs x y          the cell of column x and row y, where a row has w cells
 --     present c              the present of the cell c

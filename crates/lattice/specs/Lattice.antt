@@ -19,7 +19,7 @@ pub record Lattice : Type 0 where
 abbrev pub Whole : Lattice → Type 0
 Whole l = length l.cells ≡ l.width * l.height
 
--- past its end a list gives 0, so this says something of the cells alone
+-- past its end a list gives 0, so this constrains only the cells
 abbrev pub Bytes : List ℕ → Type 0
 Bytes cs = (k : ℕ) → slice_index cs k < 256
 

@@ -52,7 +52,7 @@ pub trait Map {
     ghost laws: { (m : Self) → Reversible (forward m) (backward m) };
 }
 
-/// A borrowed map is a map, too. So a layer can stand over a map that somebody else keeps.
+/// A borrowed map is also a map, so a layer can be built on a map that it does not own.
 impl<M: Map> Map for &M {
     ghost forward = { λ m. M.Map.forward m.now };
 

@@ -1,4 +1,4 @@
-//! The way out and home again.
+//! Moving a lattice forward, and back by as many moves.
 ghost use Rattle.std.specs.Prelude.{◌≡◌};
 ghost use Rattle.lattice.specs.Maps.{repeated};
 ghost use Rattle.lattice.specs.Overlays.{laid_over};
@@ -15,8 +15,8 @@ fn lay_over(from: &[u8], onto: &mut [u8])
     onto[0..count].copy_from_slice(&from[0..count]);
 }
 
-/// Makes `count` moves forward and then as many back, after which the lattice is what it was. Returns the start record of the turning point.
-/// The cells held there are copied to the beginning of `far`, as many as fit.
+/// Makes `count` moves forward and then as many back, after which the lattice is what it was. Returns the start record after the moves forward.
+/// The cells held at that time are copied to the beginning of `far`, as many as fit.
 pub fn round_trip<M: Map>(
     map: &M,
     count: u32,

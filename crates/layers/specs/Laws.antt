@@ -18,7 +18,7 @@ then_keeps f g kf kg = record {
 pub then_undone : (f f' g g' : Lattice → Lattice) → Keeps f → UndoneBy f f' → UndoneBy g g' → UndoneBy (one_then f g) (one_then g' f')
 then_undone f f' g g' kf uf ug l w = ap f' (ug (f l) (kf.within l w)) ∙ uf l w
 
--- in by b and out by b': at the end b' undoes what b does at the beginning
+-- b comes first and b' last: b' undoes what b does at the beginning
 pub between_keeps : (f b b' : Lattice → Lattice) → Keeps f → Keeps b → Keeps b' → Keeps (between f b b')
 between_keeps f b b' kf kb kb' = then_keeps b (one_then f b') kb (then_keeps f b' kf kb')
 
@@ -44,7 +44,7 @@ module _ {f f' g g' : Lattice → Lattice} where
     backward_keeps = then_keeps g' f' b.backward_keeps a.backward_keeps;
   }
 
-  -- f as it looks through g
+  -- f conjugated by g
   pub between_laws : Reversible f f' → Reversible g g' → Reversible (between f g g') (between f' g g')
   between_laws a b = record {
     back_undoes_forward = between_undone f f' g g' a.forward_keeps b.forward_keeps a.back_undoes_forward b.back_undoes_forward b.forward_undoes_back;

@@ -1,6 +1,6 @@
 -- What the layers make of the functions of their parts. `Reverse` needs no definition, since it only takes each of the two for the other.
 --     one_then f g           f, and then g
---     between f b back       b, then f, then back: f as it looks through b
+--     between f b back       b, then f, then back: f conjugated by b
 use Rattle.lattice.specs.Lattice.{Lattice}
 
 abbrev pub one_then : (Lattice → Lattice) → (Lattice → Lattice) → Lattice → Lattice

@@ -1,5 +1,5 @@
 -- The parts that a layer is made of.
---     first_of m, second_of m     of `Then`: the map that moves first on the way forward, and the other
+--     first_of m, second_of m     of `Then`: the map that moves first in a move forward, and the other
 --     reversed_of m               of `Reverse`: its map
 --     conjugated_of m, by_of m    of `Conjugate`: the map that is conjugated, and the one that it is conjugated by
 --     repeated_of m, count_of m   of `Times`: its map and its count

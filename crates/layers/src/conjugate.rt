@@ -1,4 +1,4 @@
-//! The layer that shows a map through another: the conjugate of one by the other.
+//! The layer that conjugates one map by another.
 ghost use Rattle.std.specs.Prelude.{◌≡◌};
 ghost use Rattle.layers.specs.Layers.{between};
 ghost use Rattle.layers.specs.Laws.{between_laws};
@@ -7,7 +7,8 @@ ghost use Rattle.layers.specs.Parts.{conjugated_of, by_of};
 use lattice::map::Map;
 use lattice::start::Start;
 
-/// A map conjugated by another. Forward or back, it moves in the view of that other map, which a move forward of it enters and a move back leaves.
+/// A map conjugated by another: a move in either direction is a move forward of the other map, a move of the conjugated map in that direction, and a
+/// move back of the other.
 #[derive(Clone, Copy, Drop)]
 pub struct Conjugate<A, B> {
     inner: A,
@@ -32,14 +33,14 @@ impl<A: Map, B: Map> Map for Conjugate<A, B> {
     ghost laws = { λ m. between_laws (A.Map.laws (conjugated_of m)) (B.Map.laws (by_of m)) };
 
     fn advance(&self, start: &mut Start, cells: &mut [u8]) {
-        self.by.advance(start, cells); // into the view of the other map
+        self.by.advance(start, cells); // into the image under the other map
         self.inner.advance(start, cells);
         self.by.retreat(start, cells); // and out of it
     }
 
     fn retreat(&self, start: &mut Start, cells: &mut [u8]) {
-        self.by.advance(start, cells); // forward here too: the way back is made in the same view
+        self.by.advance(start, cells); // forward here too: the move back is also made on the image
         self.inner.retreat(start, cells);
-        self.by.retreat(start, cells); // out of it, as before
+        self.by.retreat(start, cells); // out of it, as in `advance`
     }
 }

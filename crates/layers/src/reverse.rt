@@ -1,4 +1,4 @@
-//! The layer that turns a map round.
+//! The layer that reverses a map.
 ghost use Rattle.std.specs.Prelude.{◌≡◌};
 ghost use Rattle.lattice.proofs.Reversed.{reverse_laws};
 ghost use Rattle.layers.specs.Parts.{reversed_of};

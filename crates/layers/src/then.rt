@@ -7,7 +7,7 @@ ghost use Rattle.layers.specs.Parts.{first_of, second_of};
 use lattice::map::Map;
 use lattice::start::Start;
 
-/// Two maps as one. A move forward is a move of the first and then of the second; a move back takes back the second before the first.
+/// Two maps as one. A move forward is a move of the first and then of the second; a move back is a move back of the second and then of the first.
 #[derive(Clone, Copy, Drop)]
 pub struct Then<A, B> {
     first: A,

@@ -49,7 +49,7 @@ flip_accepted w h c r m k e = here (flip_refusal w h c r m) refl e
         let y = t.1 in
         (grind (arith, nat_tests), grind (arith, nat_tests), grind (arith, nat_tests), grind (arith, nat_tests), room_left k room')
 
--- a call that needs cells and is accepted got as many as the lattice has, and no other cause applies to it
+-- an accepted call that needs cells got as many as the lattice has, and no other cause applies to it
 pub cells_accepted : (w h n : ℕ) (c : Record) (led : Ledger) → takes_cells c ≡ true → refusal w h n c led ≡ None → (n ≡ w * h) × (own_refusal w h c led ≡ None)
 cells_accepted w h n c led takes e = here (n == w * h) refl (rw takes at e)
   where

@@ -1,4 +1,4 @@
--- The actions that undo others are as many as those, and their clock is the opposite. Assumes nothing.
+-- There is one undoing action for each action that is undone, and their clock is the opposite. Assumes nothing.
 use Rattle.std.proofs.Common.{◌≡◌, ℕ, ℤ, pos, neg_ℤ, List, [], ◌∷◌, length, reverse, fold, refl, sym, ap, ap₂, ◌∙◌, subst, arith}
 use Rattle.std.proofs.Math.IntN.{neg_ℤ-+ℤ, +ℤ_assoc, +ℤ_comm, +ℤ_idl, +ℤ_idr}
 use Rattle.std.specs.Prelude.{◌+ℤ◌}

@@ -1,7 +1,7 @@
 -- The work half done: the rule's values are XORed into some pasts, and the other cells are as they were. Cited by inner functions alone; what
 -- the map means is in Maps.antt.
 --     answered f w h cs x y         the cell of column x and row y with f of its neighbourhood XORed into its past
---     Answered f w h a b old new    the cells at the places from a to below b are so, and no others
+--     Answered f w h a b old new    exactly the cells at the places from a up to, but not including, b are `answered`; the others are as they were
 --     column w h cs x y             the presents of column x above, in and below row y, with the weights of the western column of a neighbourhood
 use Rattle.std.specs.Prelude.{◌≡◌, ℕ, ◌+◌, ◌*◌, ◌<◌, ◌≤◌, ◌⊎◌, List, length}
 use Rattle.lattice.specs.Cells.{cell}

@@ -21,8 +21,8 @@ fn answer_cell<R: LocalRule>(rule: &R, around: Neighbourhood, cell: u8) -> u8
     cell / 4 * 4 + past % 2 * 2 + cell % 2
 }
 
-// The cells of row y. The columns to the west and of the cell itself are known from earlier turns of the loop. It goes by places, and not by
-// an iterator over the row, since the neighbours, which are in other rows too, are read from the memory that is written.
+// The cells of row y. The column to the west and that of the cell itself are known from earlier iterations. The loop uses indices instead of an
+// iterator over the row, since the neighbours, some of them in other rows, are read from the slice that is written.
 fn answer_row<R: LocalRule>(rule: &R, start: &Start, cells: &mut [u8], y: usize)
     requires whole { Whole (held start.now cells.old) }
     requires row { y < height_of start.now }

@@ -13,7 +13,7 @@ use rules::rule::LocalRule;
 /// The second-order map of a local rule: a cell's next state is its past XOR the rule's value for the present neighbourhood.
 ///
 /// The construction is E. Fredkin's, as Cellular Automata Machines by T. Toffoli and N. Margolus (1987) describes it. If the book differs from
-/// docs/MAPS.md, that page counts.
+/// docs/MAPS.md, that page applies.
 #[derive(Clone, Copy, Drop)]
 pub struct Lift<R> {
     rule: R,

@@ -1,4 +1,4 @@
--- Bench and mirror stay in step. Assumes nothing.
+-- Bench and mirror hold and report the same, apart from the sign of the clock. Assumes nothing.
 use Rattle.std.proofs.Common.{◌≡◌, ℕ, ◌*◌, Bool, true, false, cond, List, [], ◌∷◌, ◌++◌, map, fold, length, neg_ℤ, refl, sym, ap, ap₂, ◌∙◌}
 use Rattle.std.proofs.lemmas.List.{length-map, map-append}
 use Rattle.std.specs.Prelude.{◌&&◌, ◌==◌, not}

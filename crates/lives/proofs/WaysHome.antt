@@ -1,4 +1,4 @@
--- A bench that takes over what is held and runs the reverse script returns to the opening lattice. Assumes nothing.
+-- A bench that is opened on what is held and runs the reverse script then holds the opening lattice. Assumes nothing.
 use Rattle.std.proofs.Common.{◌≡◌, ℕ, ◌*◌, ◌≤◌, eqb, ℤ, neg_ℤ, List, [], length, Ok, Err, Result, sym, ap, ap₂, ◌∙◌, subst, arith}
 use Rattle.std.proofs.lemmas.Bool.{cond-true, eq-eqb}
 use Rattle.std.specs.List.{All}
@@ -82,7 +82,7 @@ module _ (f g : Lattice → Lattice) (laws : Reversible f g) (l : Lattice) (insi
       ap (λ a. a >>= λ rs. answer_of n (first_refused f g (begun f g l led) rs) rs) (home_read n)
       ∙ ap (λ d. answer_of n d (home_records led.standing)) all_go.none
 
-  -- and returns to the opening lattice
+  -- and then holds the opening lattice
   no_flips : here ≡ all_made f g led.standing l
   no_flips = ap (λ q. all_flipped q (all_made f g led.standing l)) (s.at_rest rest)
 
@@ -111,7 +111,7 @@ module _ (f g : Lattice → Lattice) (laws : Reversible f g) (l : Lattice) (insi
         no_flips = ap (λ t. t.ledger.session) went;
       }
 
--- what is alike comes home, too
+-- the same for an equal result, lattice and counts
 pub comes_alike : (l : Lattice) (led : Ledger) (a a' : Result ℕ RunFault) (m m' : Lattice) (c c' : ℕ × ℕ × ℤ × ℕ) → a' ≡ a → m' ≡ m → c' ≡ c → ComesHome l led a m c → ComesHome l led a' m' c'
 comes_alike l led a a' m m' c c' x y z home = record { answer = x ∙ home.answer; lines = x ∙ home.lines; opening = y ∙ home.opening; counts = z ∙ home.counts }
 

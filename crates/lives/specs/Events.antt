@@ -3,7 +3,7 @@
 --     is_part t                whether t lends bytes of `second`
 --     lent_cells w h n e       how many bytes the call of the event e gets as cells
 --     is_call w h n e led      whether e is a call of the life: the state permits it, and the cells that it needs, if any, are not w * h bytes of `second`
---     event_answered w h n e led   the answer to e: Skipped if it is no call of the life, and Given for Open and Close
+--     event_answered w h n e led   the answer to e: Skipped if it is not a call of the life, and Given for Open and Close
 --     event_booked w h n e led     the ledger after e
 --     event_made f g n e led l     the lattice after e, if l is held before it; f and g are the two functions of the map
 use Rattle.std.specs.Prelude.{ℕ, ◌*◌, ◌==◌, ◌&&◌, Bool, true, false, not, min, if◌then◌else◌}

@@ -41,7 +41,7 @@ pub record Lived (f g : Lattice → Lattice) (s : Start) (es : List Event) (old 
   -- the lattice held is that of the opening, changed by each action that stands, the earliest first, and then by the flips pending in the session
   pub held_then : held o.start new.cells.now ≡ life_lattice f g (opening s old) (other old) es
   pub counted : o.counts ≡ counts (life_ledger (opening s old) (other old) es) (phase_of o.start)
-  -- the mirror has a life of its own, over the reversed map and with the mirrored events, and ends up holding the same
+  -- the mirror has a life of its own, over the reversed map and with the mirrored events, and holds the same in the end
   pub mirror : held o.mirror_start new.mirror.now ≡ life_lattice g f (opening s old) (other old) (map mirror_event es)
   pub mirror_counted : o.mirror_counts ≡ counts (life_ledger (opening s old) (other old) (map mirror_event es)) (phase_of o.mirror_start)
   pub same : held o.mirror_start new.mirror.now ≡ held o.start new.cells.now
@@ -49,9 +49,10 @@ pub record Lived (f g : Lattice → Lattice) (s : Start) (es : List Event) (old 
   -- after each event, bench and mirror report what their ledgers say, and that is the same except for the sign of the clock
   pub replies : Recorded f g (opening s old) (other old) es old.seen.now new.seen.now
   pub alike : (k : ℕ) (e : Event) → (seen_after f g (opening s old) (other old) (take k es) e).mirror ≡ of_mirror (seen_after f g (opening s old) (other old) (take k es) e).bench
-  -- the third bench makes every record of the reverse script and is back at the opening lattice then; its clock has the opposite sign
+  -- if there is a way back, the third bench makes every record of the reverse script and then holds the opening lattice; its clock has the opposite sign
   pub way_back : GoesBack f g (opening s old) (life_ledger (opening s old) (other old) es) old.script.now new.script.now old.home.now new.home.now o.way_back
-  -- after each beginning of the events, too: the mirror holds the same, and where the bench rests, the reverse script leads home
+  -- for each prefix of the events as well: the mirror holds the same lattice, and if the bench is at rest there, its reverse script
+  -- restores the opening lattice
   pub same_at : (k : ℕ) → life_lattice g f (opening s old) (other old) (map mirror_event (take k es)) ≡ life_lattice f g (opening s old) (other old) (take k es)
   pub home_at : (k : ℕ) → (life_ledger (opening s old) (other old) (take k es)).state ≡ Rest → LeadsHome f g (opening s old) (life_ledger (opening s old) (other old) (take k es))
   pub second : new.second.now ≡ old.second.now

@@ -1,6 +1,6 @@
 -- The life of the mirror.
 --     mirror_event e     the event that the mirror gets where the bench gets e
---     bench_map m        the map of the bench, where m is the mirror's: it is lent to both, and stands reversed under the mirror
+--     bench_map m        the map of the bench, where m is the mirror's: both borrow it, and the mirror uses it reversed
 use Rattle.std.specs.Borrow.{Bor}
 use Rattle.layers.specs.Parts.{reversed_of}
 use Rattle.layers.specs.declared.reverse.Reverse.{Reverse}

@@ -1,10 +1,10 @@
 -- The way back from where a life has led. It began with the lattice l, and its ledger is led; f and g are the two functions of the map.
 --     begun f g l led                                    a third bench, just opened on the lattice that is held
 --     gone f g l led                                     what it holds after the reverse script was run on it
---     ComesHome l led a m c                              a run of the reverse script that returns a and ends on the lattice m, with the counts c, has made all records, one
---                                                        on each line, and has come back to the opening lattice, with the opposite clock
---     LeadsHome f g l led                                so has the run on the third bench, which rests afterwards, with no flip of a session
---     Home f g l led old new cells j                     j is the way back; the memory of the script goes from `old` to `new`, and the third bench comes to hold `cells`
+--     ComesHome l led a m c                              a run of the reverse script that returns a and ends on the lattice m with the counts c has made all its records, one
+--                                                        for each line; m is the opening lattice, and the clock is the opposite one
+--     LeadsHome f g l led                                the run on the third bench does so; that bench is at rest afterwards, and no flip is pending
+--     Home f g l led old new cells j                     j is the way back; the memory of the script goes from `old` to `new`, and the third bench holds `cells` afterwards
 --     GoesBack f g l led script script' home home' w     w is the way back, or why there is none: the memory of the script goes from `script` to script', and the cells
 --                                                        memory of the third bench from `home` to home'
 use Rattle.std.specs.Prelude.{◌≡◌, ℕ, ◌<◌, ◌≤◌, ℤ, List, [], ◌++◌, length, drop, neg_ℤ, Ok, Result}
@@ -42,7 +42,7 @@ pub record LeadsHome (f g : Lattice → Lattice) (l : Lattice) (led : Ledger) : 
   pub rests : (gone f g l led).ledger.state ≡ Rest
   pub no_flips : (gone f g l led).ledger.session ≡ []
 
--- the script is that of the actions that stand. It is run on the third bench, and comes home
+-- the script is that of the actions that stand. It is run on the third bench, which holds the opening lattice afterwards
 pub record Home (f g : Lattice → Lattice) (l : Lattice) (led : Ledger) (old new cells : List ℕ) (j : Journey) : Type 0 where
   pub rests : led.state ≡ Rest
   pub len : j.script_len ≡ length (home_script led.standing)

@@ -40,7 +40,7 @@ fn call_elsewhere<'m, M: Map>(
     bench.call(call, part)
 }
 
-// Makes the call of an event, or skips it if it is no call of the life, and then reads the counts.
+// Makes the call of an event, or skips it if it is not a call of the life, and then reads the counts.
 pub(crate) fn make_event<'m, M: Map>(
     bench: AnyBench<'m, M>,
     event: Event,

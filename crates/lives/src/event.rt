@@ -8,7 +8,7 @@ use scripts::record::Record;
 pub enum Lent {
     /// The cells of its own bench.
     Own,
-    /// The first bytes of `Memories::second`: so many, or all if it has fewer.
+    /// This many of the first bytes of `Memories::second`, or all of them if it has fewer.
     Part(usize),
 }
 

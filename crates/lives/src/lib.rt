@@ -1,4 +1,4 @@
-//! Whole lives: a bench and its mirror, through any calls, and the way back from where these lead.
+//! Whole lives: a bench and its mirror under any sequence of calls, and the way back to the opening lattice.
 #![tactic(auto)]
 
 mod calls;

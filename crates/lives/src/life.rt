@@ -12,9 +12,10 @@ use lattice::map::Map;
 use lattice::start::Start;
 use layers::reverse::Reverse;
 
-/// Lives a life: makes the events on a bench over `map`, and on its mirror, a bench over the reverse of `map` that begins with equal cells and gets
-/// every step count negated. Skips events that are no call of the life. Unless a session is left open, a third bench over `map` takes over the cells
-/// that came out, and runs the reverse script. Refused with `Cells`, before anything is done, if `cells`, `mirror` or `home` has the wrong length.
+/// Carries out the life of a bench: makes the calls of the events on a bench over `map`, and on its mirror, a bench over the reversed map that starts
+/// with the same cells and gets every step count negated. An event that is not a call of the life is skipped. Unless a session is left open or
+/// `script` is too short, a third bench over `map` gets a copy of the resulting cells and runs the reverse script. Refused with `Cells`, before
+/// anything is done, if `cells`, `mirror` or `home` has the wrong length.
 pub fn live<M: Map>(
     map: &M,
     start: Start,

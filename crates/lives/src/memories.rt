@@ -8,7 +8,7 @@ pub struct Memories<'m> {
     pub cells: &'m mut [u8],
     /// The cells of its mirror, at first overwritten by a copy of `cells`.
     pub mirror: &'m mut [u8],
-    /// The cells of the third bench, which goes the way back; as they were if there is none.
+    /// The cells of the third bench, which runs the reverse script; unchanged if there is no such run.
     pub home: &'m mut [u8],
     /// The bytes that `Lent::Part` refers to; never changed.
     pub second: &'m mut [u8],

@@ -4,7 +4,7 @@ use faults::run::RunFault;
 use lattice::start::Start;
 use reverse_script::refusal::ScriptRefusal;
 
-/// A way back that was made: the reverse script, and what its run on a third bench came to.
+/// A way back that was made: the reverse script, and the outcome of its run on a third bench.
 #[derive(Clone, Copy, PartialEq, Eq, Debug)]
 pub struct Journey {
     /// The length of the script in bytes.
@@ -24,6 +24,7 @@ pub enum WayBack {
     InSession,
     /// The script was not written.
     Refused(ScriptRefusal),
+    /// The script was written, and was run on a third bench.
     Gone(Journey),
 }
 

@@ -38,7 +38,7 @@ landed f s s' n p q cs cs' ds ew eh ep moved =
     let begun : held s cs ≡ square n p cs = λ i. record { width = ew i; height = eh i; phase = ep i; cells = cs } in
     ap (stands_at q ds) (moved ∙ ap f begun)
 
--- a map that means g comes out on an example if g does
+-- a map that means g gives the result of an example if g does
 pub means : (f g : Lattice → Lattice) → f ≡ g → (k n p q : ℕ) (cs ds : List ℕ) → repeated k g (square n p cs) ≡ square n q ds → stands_at q ds (square n q ds) ≡ true
     → stands_at q ds (repeated k f (square n p cs)) ≡ true
 means f g e k n p q cs ds h out = ap (λ moves. stands_at q ds (repeated k moves (square n p cs))) e ∙ ap (stands_at q ds) h ∙ out

@@ -1,5 +1,5 @@
--- Worked examples, in the order of docs/MAPS.md: those of the named maps, and then some that tell left from right, above from below and there
--- from back. Cells are given row after row.
+-- Worked examples, in the order of docs/MAPS.md: those of the named maps, and then some that distinguish left from right, above from below, and
+-- forward from back. Cells are given row after row.
 --     square n p cs          the lattice of n by n cells at phase p
 --     one_present            two by two cells, the first of them present; one_marked, the same with its upper free bits set
 --     all_kinds              two by two cells with each kind of past and present
@@ -10,8 +10,8 @@
 --     wide p cs              the lattice of four by two cells at phase p
 --     lopsided               a block table that is changed by each rotation and reflection of the square: entry v is 7 v + 3 modulo 16
 --     cycle, cycle_back      the cell table that goes from each number to the next, and from the last to the first; and the one that goes back
---     seen_through f         f as it looks through the cell map of cycle
---     ExamplesComeOut        each example comes out as it was worked out by hand
+--     seen_through f         f conjugated by the cell map of cycle
+--     ExamplesComeOut        each example gives the result that was worked out by hand
 --     stands_at q ds l       whether the lattice l is at phase q and has the cells ds
 --     Lands f n p cs q ds r  r says whether f leads from the square with the cells cs at phase p to the cells ds at phase q; if the limits permit no
 --                            such square, r says no. Cited by an inner function alone

@@ -2,7 +2,7 @@
 --     bbm_forward, bbm_backward           the billiard ball model; likewise critters and tron
 --     life2_forward, life2_backward       the lift of Life
 --     exchange_forward, exchange_backward the cell map of the table exchange, which makes pasts of presents and presents of pasts
---     mixed_forward, mixed_backward       three rounds of bbm, and then life2 as it looks through the exchange; and the way back
+--     mixed_forward, mixed_backward       three rounds, each of bbm and then of life2 conjugated by the exchange; and the way back
 use Rattle.lattice.specs.Lattice.{Lattice}
 use Rattle.lattice.specs.Maps.{repeated}
 use Rattle.tables.specs.Names.{bbm, critters, critters_back, tron, exchange}

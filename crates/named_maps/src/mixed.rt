@@ -32,8 +32,8 @@ fn three() -> Count
     Count::new(3).unwrap()
 }
 
-/// A stack of both kinds. A move is made of three rounds: the billiard ball model, and then the lift of Life as it looks with past and present
-/// exchanged.
+/// A stack of both kinds. A move is made of three rounds: the billiard ball model, and then the lift of Life, conjugated by the exchange of
+/// past and present.
 pub fn mixed() -> Mixed
     ensures forward { ⟦<Mixed as Map>⟧.forward result ≡ mixed_forward }
     ensures backward { ⟦<Mixed as Map>⟧.backward result ≡ mixed_backward }

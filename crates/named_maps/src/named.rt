@@ -14,10 +14,15 @@ use lattice::start::Start;
 /// A named map that is chosen when the program runs. docs/MAPS.md says what each of them is.
 #[derive(Clone, Copy, PartialEq, Eq, Debug)]
 pub enum NamedMap {
+    /// The billiard ball model, a block map.
     Bbm,
+    /// The block map of the table Critters.
     Critters,
+    /// The block map of the table Tron.
     Tron,
+    /// The lift of Life.
     Life2,
+    /// Three rounds for each move: the billiard ball model, and then the lift of Life, conjugated by the exchange of past and present.
     Mixed,
 }
 

@@ -8,7 +8,7 @@ use crate::way::Way;
 use lattice::map::Map;
 use lattice::start::Start;
 
-/// The map that moves every row by one cell round the torus: to the east on the way forward.
+/// The map that moves every row by one cell round the torus: to the east in a move forward.
 #[derive(Clone, Copy)]
 pub struct RowShift;
 

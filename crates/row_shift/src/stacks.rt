@@ -16,7 +16,7 @@ use layers::reverse::Reverse;
 use layers::then::Then;
 use tables::block::BlockTable;
 
-/// The block map of a table, seen through the shift: its blocks are moved by one column.
+/// The block map of a table, conjugated by the shift: its blocks are moved by one column.
 pub fn staggered(table: BlockTable) -> Conjugate<BlockMap, RowShift>
     ensures forward { ⟦<Conjugate<BlockMap, RowShift> as Map>⟧.forward result ≡ staggered_forward (entries_of table) }
     ensures backward { ⟦<Conjugate<BlockMap, RowShift> as Map>⟧.backward result ≡ staggered_backward (inverse_of table) }
@@ -24,7 +24,7 @@ pub fn staggered(table: BlockTable) -> Conjugate<BlockMap, RowShift>
     Conjugate::new(BlockMap::new(table), RowShift::new())
 }
 
-/// The block map of a table, in a frame that goes one cell east with each move.
+/// The block map of a table, in a frame of reference that moves one cell east with each move.
 pub fn drifting(table: BlockTable) -> Then<BlockMap, Reverse<RowShift>>
     ensures forward { ⟦<Then<BlockMap, Reverse<RowShift>> as Map>⟧.forward result ≡ drifting_forward (entries_of table) }
     ensures backward { ⟦<Then<BlockMap, Reverse<RowShift>> as Map>⟧.backward result ≡ drifting_backward (inverse_of table) }
@@ -39,7 +39,7 @@ pub fn drift_by(table: BlockTable, count: u32, start: &mut Start, cells: &mut [u
     drifting(table).advance_by(count, start, cells);
 }
 
-/// Goes out and home again by the staggered block map of a table, as `round_trip` does by any map.
+/// Makes `count` moves forward and as many back by the staggered block map of a table: a call of `round_trip`.
 pub fn staggered_round_trip(
     table: BlockTable,
     count: u32,

@@ -1,7 +1,7 @@
 -- The run of a script on what is held. Here f and g are the two functions of the map.
 --     first_refused f g s rs     the index of the first of the records rs that is refused, from 0, with its cause; none if all are accepted
---     one_later d                d for a list with one more record at its head
---     here_or a d                the same for a whole list, where a is the answer to its head and d belongs to the rest
+--     one_later d                d with its index one higher, for a list with one more record in first place
+--     here_or a d                the first refusal of a list whose first record has the answer a and whose other records have the first refusal d
 --     made_of d rs               the records of rs that are made, where d is the first that is refused
 --     answer_of n d rs           the result then, if rs begins on line n: how many records were made, or the fault
 --     closed_if t f g s          s, after Clear and Close if the state t is in session
@@ -9,7 +9,7 @@
 --     asked l n bs               the records of the text bs, which begins on line n; or why none is made: l is not whole, or the text has a fault
 --     run_answer f g s n bs      the result of running bs
 --     run_of f g s a             s after running the records a; s as it was, if a is a fault
---     run_scene f g s n bs       s after running bs: at rest, and without the flips of a session that a refusal cut short
+--     run_scene f g s n bs       s after running bs: at rest, and without the flips of a session that a refusal interrupted
 use Rattle.std.specs.Prelude.{ℕ, suc, ◌+◌, ◌*◌, ◌==◌, List, [], ◌∷◌, length, take, Option, Some, None, Result, Ok, Err, if◌then◌else◌}
 use Rattle.any_bench.specs.Scenes.{Scene, answered_at, after_call, after_calls}
 use Rattle.any_bench.specs.declared.answer.Answer.{Answer}

@@ -77,7 +77,7 @@ fn come_to_rest<'m, M: Map>(bench: AnyBench<'m, M>, cells: &mut [u8]) -> Bench<'
 /// Runs a script on the bench, and gives the bench back at rest. The first line of `text` has the number `first_line`.
 /// Returns how many records were made. None is made if `cells` has the wrong length (`Cells`, with line 0) or anything in the text is at fault
 /// (`RunFault::Record`). Otherwise the first refusal ends the run, with its cause and line: what was made before it stays, except for the flips of a
-/// session that it cut short.
+/// session that it interrupts.
 pub fn run<'m, M: Map>(
     bench: Bench<'m, M>,
     cells: &mut [u8],
@@ -87,15 +87,16 @@ pub fn run<'m, M: Map>(
     ensures answer { result.1 ≡ run_answer (M.forward (map_of bench.entry)) (M.backward (map_of bench.entry)) (rest_scene bench.entry cells.old) first_line text.now }
     ensures scene { rest_scene result.0 cells.new ≡ run_scene (M.forward (map_of bench.entry)) (M.backward (map_of bench.entry)) (rest_scene bench.entry cells.old) first_line text.now }
     ensures map { map_of result.0 ≡ map_of bench.entry }
-    // whatever calls the bench has had since it was opened on l: what is held is what the actions that stand make of l, and no session is open
+    // if the bench was opened on l, and each call since then was handed the cells that were held, then after the run no session is open and what is
+    // held is what the standing actions make of l
     ensures stands { (l : Lattice) → Within l → HasLived (M.forward (map_of bench.entry)) (M.backward (map_of bench.entry)) l (rest_scene bench.entry cells.old) → RestsOn (M.forward (map_of bench.entry)) (M.backward (map_of bench.entry)) l (rest_scene result.0 cells.new) }
-    // and those of the run are further calls
+    // the calls of the run are further calls of the same life
     ensures lived { (l : Lattice) → HasLived (M.forward (map_of bench.entry)) (M.backward (map_of bench.entry)) l (rest_scene bench.entry cells.old) → HasLived (M.forward (map_of bench.entry)) (M.backward (map_of bench.entry)) l (rest_scene result.0 cells.new) }
 {
     run_checked(bench, cells, text, first_line)
 }
 
-// Runs the script, if the check of cells and text lets it through.
+// Runs the script if the check of cells and text accepts it.
 fn run_checked<'m, M: Map>(
     bench: Bench<'m, M>,
     cells: &mut [u8],

@@ -1,4 +1,4 @@
--- Ten moves out and ten home. Assumes nothing.
+-- Ten moves forward and ten back. Assumes nothing.
 use Rattle.std.proofs.Common.{◌≡◌, List, ℕ, ap, ◌∙◌}
 use Rattle.lattice.specs.Lattice.{Lattice, Bytes}
 use Rattle.lattice.specs.Maps.{Reversible, repeated}

@@ -1,8 +1,8 @@
 -- What a map makes of the sample cells.
 --     sampled s          the lattice that s makes up with as many of the sample cells as it needs
 --     IsDigest l d       d has the digest of l's cells, and l's phase
---     IsOutcome f g s o  o has the digests of the sampled lattice after one move f, after ten and after one move g; ten moves g after the ten f lead
---                        home, and o says so
+--     IsOutcome f g s o  o has the digests of the sampled lattice after one move f, after ten and after one move g; ten moves g after the ten f
+--                        restore the sample, and o says so
 use Rattle.std.specs.Prelude.{◌≡◌, ◌*◌, true, map, fold}
 use Rattle.std.specs.List.{range_with_len}
 use Rattle.lattice.specs.Lattice.{Lattice}

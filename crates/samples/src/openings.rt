@@ -1,3 +1,5 @@
+//! The openings of the sample lattices.
+
 /// Where the sample lattices begin: columns, rows and phase.
 pub const OPENINGS: [(u32, u32, u32); 18] = [
     (2, 2, 0),

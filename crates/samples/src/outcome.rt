@@ -15,7 +15,7 @@ pub struct Digest {
     pub phase: u8,
 }
 
-/// Where a map leads from the sample, and whether it comes back.
+/// What a map makes of the sample, and whether moves back restore it.
 #[derive(Clone, Copy, PartialEq, Eq, Debug)]
 pub struct Outcome {
     /// After one move forward.
@@ -24,7 +24,7 @@ pub struct Outcome {
     pub ten: Digest,
     /// After one move back.
     pub back: Digest,
-    /// Whether ten moves back, after the ten forward, lead home again.
+    /// Whether ten moves back, after the ten forward, restore the sample.
     pub home: bool,
 }
 

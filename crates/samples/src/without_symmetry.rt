@@ -1,4 +1,4 @@
-//! Two tables and a rule without symmetry, so that a mistake shows with them that symmetry would hide.
+//! Two tables and a rule without symmetry, which reveal mistakes that symmetry would hide.
 ghost use Rattle.std.specs.Prelude.{◌≡◌, map};
 ghost use Rattle.std.specs.List.{range_with_len};
 ghost use Rattle.rules.specs.Rules.{entries_of as rule_entries};

@@ -1,4 +1,4 @@
--- Scripts as their writer sees them, apart from how a text is read.
+-- Scripts and their faults, in terms of lines and fields and not of how a text is read.
 --     IsScript rs bs          bs is the text of the records rs: the states permit one after another, from rest to rest, each of their numbers has
 --                             at most six digits, and bs is short enough
 --     IsArgument w bs         bs is a number of the kind that the word w takes

@@ -80,7 +80,7 @@ impl<'t> Records<'t> {
         ensures position { position_of (reader_of result) ≡ 0 }
         ensures line { line_of (reader_of result) ≡ first_line }
         ensures state { state_of result ≡ Rest }
-        // the text that records are written as is read as them
+        // the written form of a list of records is read as that list
         ensures written { (rs : List Record) → Reads Rest rs Rest text.now → left_of result ≡ Ok rs }
     {
         Records {
@@ -103,7 +103,7 @@ impl<'t> Records<'t> {
         self.state
     }
 
-    /// The next record, or the first fault of its line. At the end of the text, `None` at rest and a fault in session. Only a record is read past.
+    /// The next record, or the first fault of its line. At the end of the text, `None` at rest and a fault in session. Only a record moves the reader.
     #[tactic(auto, using(crate::proofs::Lefts::left_after))]
     pub fn next_record(&mut self) -> Result<Option<Record>, RecordFault>
         ensures answer { result ≡ next_of self.old }

@@ -7,7 +7,7 @@ use faults::line_number::LineNumber;
 use faults::run::{BenchRefusal, RunFault};
 use lattice::start::Start;
 
-/// Checks that the cells are as many as the lattice has, and then that the text is a script. Returns how many records it has.
+/// Checks that there are as many cells as the lattice has, and then that the text is a script. Returns how many records it has.
 pub fn check_run(
     start: &Start,
     cells: &[u8],

@@ -4,7 +4,9 @@ use crate::word::Word;
 /// Whether a session is open.
 #[derive(Clone, Copy, PartialEq, Eq, Debug)]
 pub enum State {
+    /// No session is open: permits `step`, `undo`, `redo` and `open`.
     Rest,
+    /// A session is open: permits `flip`, `clear` and `close`.
     Session,
 }
 

@@ -2,15 +2,22 @@
 ghost use Rattle.std.specs.Prelude.{◌≡◌};
 ghost use Rattle.scripts.specs.Words.{spelling, word_of};
 
-/// What a record asks for.
+/// The word that a record begins with, which says what the record does.
 #[derive(Clone, Copy, PartialEq, Eq, Debug)]
 pub enum Word {
+    /// A step. One field follows: the number of moves, negative for moves back.
     Step,
+    /// Takes back the last action that stands. No field follows.
     Undo,
+    /// Makes again the action that was undone last. No field follows.
     Redo,
+    /// Starts a session. No field follows.
     Open,
+    /// Flips bits of one cell in a session. Three fields follow: column, row and mask.
     Flip,
+    /// Takes back the flips of the session. No field follows.
     Clear,
+    /// Ends the session. No field follows.
     Close,
 }
 

@@ -36,7 +36,7 @@ refused_at n bs e false ends short-is ends-is is = inl (cc (is), leb-false (leng
 pub whole_refused : (n : ℕ) (bs : List ℕ) (e : RecordFault) → whole n bs ≡ Err e → ((e ≡ TooLong) × (max_text < length bs)) ⊎ Unended n bs e
 whole_refused n bs e is = refused_at n bs e (leb (length bs) max_text) (finished bs) refl refl is
 
--- the other way round
+-- the converse
 pub too_long : (n : ℕ) (bs : List ℕ) → max_text < length bs → whole n bs ≡ Err TooLong
 too_long n bs long = rw (lt-leb (length bs) max_text long) refl
 

@@ -5,8 +5,11 @@ use crate::reader::Reader;
 /// The fields of a line. Each line of a script, a board or a job has one, two or four.
 #[derive(Clone, Copy, Debug)]
 pub enum Line<'t> {
+    /// A line with one field, such as an undo.
     One(Field<'t>),
+    /// A line with two fields, such as a step, a row of a board or the map line of a job.
     Two(Field<'t>, Field<'t>),
+    /// A line with four fields: a flip, or the first line of a board.
     Four(Field<'t>, Field<'t>, Field<'t>, Field<'t>),
     /// The first field of a line with any other number of fields.
     Other(Field<'t>),

@@ -1,4 +1,4 @@
-//! Moves four lattices forward and as many steps back, and shows where they come out.
+//! Moves four lattices forward and back by as many moves, draws them, and prints whether each is restored.
 #![tactic(auto)]
 
 ghost use Rattle.std.specs.Prelude.{◌≡◌, if◌then◌else◌, codes};
