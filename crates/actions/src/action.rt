@@ -43,7 +43,7 @@ impl ActionRef<'_> {
         }
     }
 
-    /// Takes the action back: a step by moving the other way, an edit from its last flip to its first.
+    /// Undoes the action. A step is undone by its opposite; of an edit the newest flip goes first.
     pub fn take_back<M: Map>(self, map: &M, start: &mut Start, cells: &mut [u8])
         ensures { held start.new cells.new ≡ made (M.forward map.now) (M.backward map.now) (reversed (action_of self.entry)) (held start.old cells.old) }
     {

@@ -33,7 +33,7 @@ impl<'m, M: Map> Bench<'m, M> {
     ghost use Rattle.ledger.specs.Ledgers.{at_opening, counts, booked};
     ghost use Rattle.ledger.specs.Refusals.{max_clock};
 
-    /// Opens a bench. It reads no cells; the opening lattice consists of `start` and of the cells that the caller has at this time.
+    /// Opens a bench. No cells are lent to this call; those that the caller has now belong, with `start`, to the opening lattice.
     pub fn new(map: &'m M, start: Start) -> Bench<'m, M>
         ensures map { map_of result ≡ map.now }
         ensures start { start_of result ≡ start }

@@ -1,4 +1,4 @@
-//! The bench: steps, edits, undo and redo on a lattice that the caller lends, without storing a copy of any lattice.
+//! The bench: what can be done with a lattice that the caller lends, and undone, from a journal of what was done.
 #![tactic(auto)]
 
 pub mod bench;

@@ -12,7 +12,7 @@ const LONGEST: usize = 7168;
 
 const CELLS: usize = 128 * 128;
 
-// Makes 256 edits of one flip each, with three digits in each column, row and mask.
+// Fills the journal with the edits whose text is longest.
 fn make_edits<'m, M: Map>(bench: Bench<'m, M>, cells: &mut [u8]) -> Result<Bench<'m, M>, Fail> {
     let mut bench = bench;
     for made in 0..256u32 {

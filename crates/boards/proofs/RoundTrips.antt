@@ -1,4 +1,4 @@
--- The promise of `read_board`: a written board is read as itself, and a board that was read is within the limits and written as it was.
+-- The promise of `read_board`: it undoes writing, writing undoes it, and a board that was read is within the limits.
 -- Assumes nothing.
 use Rattle.std.proofs.Common.{◌≡◌, ℕ, ◌+◌, ◌*◌, ◌≤◌, true, List, ◌++◌, length, take, drop, flat_map, Ok, Err, Result, IfOk, arith, refl, sym, ◌∙◌, ap, subst}
 use Rattle.std.proofs.Math.Nat.{mul_comm}

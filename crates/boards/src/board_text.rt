@@ -26,7 +26,7 @@ fn put_board(start: &Start, cells: &[u8], memory: &mut [u8]) -> usize
     write_board(start, cells, memory).unwrap()
 }
 
-/// The text of the board, in allocated memory. `None` if the number of cells is not that of the lattice; an error if memory runs out.
+/// The text of the board, in allocated memory. `None` if the cells do not make a whole lattice; an error if memory runs out.
 pub fn board_text<A: Allocator>(
     start: &Start,
     cells: &[u8],

@@ -56,9 +56,9 @@ fn find_board(text: &[u8], first_line: LineNumber) -> Result<(Start, usize), Rec
 #[tactic(auto, using(crate::proofs::RoundTrips::written_is_found, crate::proofs::FirstFaults::found_bytes, crate::proofs::FirstFaults::found_first, crate::proofs::FaultLines::found_named))]
 pub fn check_board(text: &[u8], first_line: LineNumber) -> Result<(Start, usize), RecordFault>
     ensures answer { BoardFound (board first_line text.now) result }
-    // a written board is found
+    // the text of a board is found as that board
     ensures written { (l : Lattice) → BeginsWith l text.now → BoardFound (Ok l) result }
-    // what is found is a board within the limits, and it is written as the bytes that were read
+    // what is found is a board within the limits, whose text is just these bytes
     ensures bytes { IfOk result (λ x. (cells : List ℕ) × BeginsWith (held x.0 cells) text.now × (take x.1 text.now ≡ board_text (held x.0 cells))) }
     // a fault is reported exactly where it is the first one
     ensures first { (e : RecordFault) → (result ≡ Err e) ↔ BoardFault first_line text.now e }

@@ -78,9 +78,9 @@ pub fn read_board(
     cells: &mut [u8],
 ) -> Result<(Start, usize), RecordFault>
     ensures answer { BoardRead (board first_line text.now) cells.old cells.new result }
-    // a written board is read as the same start record and the same cells
+    // reading undoes writing
     ensures written { (l : Lattice) → BeginsWith l text.now → BoardRead (Ok l) cells.old cells.new result }
-    // a board that was read is written as the bytes that it was read from
+    // and writing undoes reading
     ensures bytes { IfOk result (λ x. take x.1 text.now ≡ board_text (held x.0 (take (width_of x.0 * height_of x.0) cells.new))) }
     // a fault is reported exactly where it is the first one
     ensures first { (e : RecordFault) → (result ≡ Err e) ↔ ReadFault first_line (length cells.old) text.now e }

@@ -78,7 +78,7 @@ fn write_whole(start: &Start, cells: &[u8], memory: &mut [u8]) -> Result<usize, 
 #[tactic(auto, using(crate::proofs::ReadBack::written_reads_back, crate::proofs::ReadBack::written_is_short))]
 pub fn write_board(start: &Start, cells: &[u8], memory: &mut [u8]) -> Result<usize, BoardRefusal>
     ensures answer { BoardWritten start.now cells.now memory.old memory.new result }
-    // what is written is read as the same start record and the same cells, whatever number its first line has
+    // a reader gets this lattice back, with any number for the first line
     ensures read_back { IfOk result (λ len. (n : ℕ) → board n (take len memory.new) ≡ Ok (held start.now cells.now)) }
     // at most 18 bytes for the first line, and those of the rows
     ensures short { IfOk result (λ len. len ≤ 18 + height_of start.now * (2 * width_of start.now + 5)) }

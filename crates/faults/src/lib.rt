@@ -1,6 +1,6 @@
 //! Faults of texts and of their runs: what is wrong, which layer found it, and where.
 //!
-//! `?` turns a field's fault into a record's, and a record's fault into a run's. The fault below is kept inside, so nothing of it is lost.
+//! Each of the three kinds of fault has the next lower one as a case, so `?` passes a fault up with all that is in it.
 #![tactic(auto)]
 
 pub mod field;

@@ -1,4 +1,4 @@
-//! Every fault that a job can have, at its place.
+//! Jobs that are refused: one for each kind of fault, and for each kind of line that can have it.
 use faults::report::Report;
 use jobs::job::run_job;
 use std::alloc::{AllocError, Global};

@@ -39,7 +39,7 @@ fn find_board(text: &[u8], room: usize) -> Result<(Start, usize), RecordFault>
     Ok((start, len))
 }
 
-// Checks the script from this place on, and returns the number of its first line, which comes after the map line, the board's line and its rows.
+// Checks the script from this place on, and returns the number of its first line.
 #[tactic(auto, using(crate::proofs::JobsFound::counted_fault, crate::proofs::JobsFound::counted))]
 fn find_script(text: &[u8], at: usize, start: &Start) -> Result<LineNumber, RecordFault>
     requires { at ≤ length text.now }

@@ -1,6 +1,6 @@
--- The laws of a map. What a map means is a pair of functions on lattices, one for a move forward and one for a move back.
+-- The laws of a map, for the function f of its move forward and the function g of its move back.
 --     UndoneBy f g      g undoes f on every lattice within the limits
---     Keeps f           f keeps the sides, the number of cells and the limits, and leaves a lattice that is not whole as it is
+--     Keeps f           of a lattice within the limits f makes another one within them, of the same shape; a lattice that is not whole is its own image
 --     Reversible f g    f and g undo each other and keep all this: the laws of a map that means f forward and g backward
 --     repeated n f      f applied n times
 use Rattle.std.specs.Prelude.{◌≡◌, ℕ, zero, suc}

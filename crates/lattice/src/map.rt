@@ -48,7 +48,7 @@ pub trait Map {
         }
     }
 
-    /// The two functions undo each other, and both keep the sides, the number of cells and the limits.
+    /// The laws, which the two functions of every map of this type keep.
     ghost laws: { (m : Self) → Reversible (forward m) (backward m) };
 }
 

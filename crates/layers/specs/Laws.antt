@@ -34,7 +34,7 @@ then_stay f g kf free free' l w k = free' (f l) (kf.within l w) k ∙ free l w k
 between_stay : (f b b' : Lattice → Lattice) → Keeps f → Keeps b → FreeBitsStay f → FreeBitsStay b → FreeBitsStay b' → FreeBitsStay (between f b b')
 between_stay f b b' kf kb free there back = then_stay b (one_then f b') kb there (then_stay f b' kf free back)
 
--- the laws of each layer, from those of its parts
+-- a layer keeps the laws if the maps in it do
 module _ {f f' g g' : Lattice → Lattice} where
   pub then_laws : Reversible f f' → Reversible g g' → Reversible (one_then f g) (one_then g' f')
   then_laws a b = record {

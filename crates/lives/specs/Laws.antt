@@ -38,7 +38,7 @@ SameLoans old new =
     SameLoan old.cells new.cells × SameLoan old.mirror new.mirror × SameLoan old.home new.home × SameLoan old.second new.second × SameLoan old.script new.script × SameLoan old.seen new.seen
 
 pub record Lived (f g : Lattice → Lattice) (s : Start) (es : List Event) (old new : Memories) (o : Outcome) : Type 0 where
-  -- the lattice held is that of the opening, changed by each action that stands, the earliest first, and then by the flips pending in the session
+  -- what is held and counted in the end follows from the ledger
   pub held_then : held o.start new.cells.now ≡ life_lattice f g (opening s old) (other old) es
   pub counted : o.counts ≡ counts (life_ledger (opening s old) (other old) es) (phase_of o.start)
   -- the mirror has a life of its own, over the reversed map and with the mirrored events, and holds the same in the end
@@ -49,10 +49,9 @@ pub record Lived (f g : Lattice → Lattice) (s : Start) (es : List Event) (old 
   -- after each event, bench and mirror report what their ledgers say, and that is the same except for the sign of the clock
   pub replies : Recorded f g (opening s old) (other old) es old.seen.now new.seen.now
   pub alike : (k : ℕ) (e : Event) → (seen_after f g (opening s old) (other old) (take k es) e).mirror ≡ of_mirror (seen_after f g (opening s old) (other old) (take k es) e).bench
-  -- if there is a way back, the third bench makes every record of the reverse script and then holds the opening lattice; its clock has the opposite sign
+  -- the way back that was made, or why none was
   pub way_back : GoesBack f g (opening s old) (life_ledger (opening s old) (other old) es) old.script.now new.script.now old.home.now new.home.now o.way_back
-  -- for each prefix of the events as well: the mirror holds the same lattice, and if the bench is at rest there, its reverse script
-  -- restores the opening lattice
+  -- a life that stopped after any of its events would have a mirror that agrees with it and, if it were at rest there, a way back
   pub same_at : (k : ℕ) → life_lattice g f (opening s old) (other old) (map mirror_event (take k es)) ≡ life_lattice f g (opening s old) (other old) (take k es)
   pub home_at : (k : ℕ) → (life_ledger (opening s old) (other old) (take k es)).state ≡ Rest → LeadsHome f g (opening s old) (life_ledger (opening s old) (other old) (take k es))
   pub second : new.second.now ≡ old.second.now

@@ -5,7 +5,7 @@ ghost use Rattle.named_maps.specs.Named.{bbm_forward, bbm_backward, critters_for
 use block_map::map::BlockMap;
 use lattice::map::Map;
 
-/// The billiard ball model (Margolus, Physics-like Models of Computation, 1984).
+/// The billiard ball model, from Physics-like Models of Computation by N. Margolus (1984).
 pub fn bbm() -> BlockMap
     ensures forward { ⟦<BlockMap as Map>⟧.forward result ≡ bbm_forward }
     ensures backward { ⟦<BlockMap as Map>⟧.backward result ≡ bbm_backward }
@@ -13,7 +13,7 @@ pub fn bbm() -> BlockMap
     BlockMap::new("bbm".parse().unwrap())
 }
 
-/// The block map of the table Critters (Toffoli and Margolus, Cellular Automata Machines, 1987).
+/// The block map of the table Critters, from Cellular Automata Machines by T. Toffoli and N. Margolus (1987).
 pub fn critters() -> BlockMap
     ensures forward { ⟦<BlockMap as Map>⟧.forward result ≡ critters_forward }
     ensures backward { ⟦<BlockMap as Map>⟧.backward result ≡ critters_backward }
@@ -21,7 +21,7 @@ pub fn critters() -> BlockMap
     BlockMap::new("critters".parse().unwrap())
 }
 
-/// The block map of the table Tron (Toffoli and Margolus, Cellular Automata Machines, 1987).
+/// The block map of the table Tron, from Cellular Automata Machines by T. Toffoli and N. Margolus (1987).
 pub fn tron() -> BlockMap
     ensures forward { ⟦<BlockMap as Map>⟧.forward result ≡ tron_forward }
     ensures backward { ⟦<BlockMap as Map>⟧.backward result ≡ tron_backward }

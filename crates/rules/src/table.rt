@@ -35,7 +35,7 @@ impl TableRule {
         TableRule { entries: zeros() }
     }
 
-    /// Replaces the whole table, or changes nothing. Refused with `Entries` if there are not 512, and then with `TooLarge` if one is above 1.
+    /// Takes these answers in place of all that are there, or none of them: if there are not 512 (`Entries`), or else if one is above 1 (`TooLarge`).
     pub fn fill(&mut self, entries: &[u8]) -> Result<(), RuleRefusal>
         ensures { TableFilled entries.now (entries_of self.new) (self.new ≡ self.old) result }
     {

@@ -1,4 +1,4 @@
--- After a run the bench rests, and holds what the actions that stand make of the lattice it was opened on. Assumes nothing.
+-- After a run the bench rests on the lattice that comes of the opening one by the standing actions. Assumes nothing.
 --     Stands f g l s     the ledger of s is sound, and s holds what the ledger says, if l was the opening lattice
 use Rattle.std.proofs.Common.{◌≡◌, Bool, true, false, cond, List, [], ◌∷◌, ◌++◌, length, Some, None, Option, Ok, Err, Result, refl, sym, ap, ap₂, ◌∙◌, subst}
 use Rattle.std.proofs.lemmas.Bool.{cond_both}

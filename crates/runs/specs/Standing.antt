@@ -1,7 +1,7 @@
 -- What a bench holds by its life. It was opened on the lattice l; f and g are the two functions of the map.
 --     opened l            what it holds then: no action stands, and the lattice is l
 --     HasLived f g l s    s is what it holds after some calls, each of which was handed the cells that were held
---     RestsOn f g l s     in s no session is open, and what is held is what the actions that stand make of l, the oldest first
+--     RestsOn f g l s     s is at rest, on the lattice that comes of l by the standing actions, the oldest first
 use Rattle.std.specs.Prelude.{◌≡◌, List, []}
 use Rattle.actions.specs.Actions.{all_made}
 use Rattle.any_bench.specs.Scenes.{Scene, after_calls}

@@ -60,7 +60,7 @@ fn make_records<'m, M: Map>(
     (bench, Ok(count))
 }
 
-// Brings the bench to rest: a session that is open is cleared and then closed.
+// Brings the bench to rest. Nothing is left of a session that is open.
 fn come_to_rest<'m, M: Map>(bench: AnyBench<'m, M>, cells: &mut [u8]) -> Bench<'m, M>
     ensures scene { rest_scene result cells.new ≡ at_rest (M.forward (any_map bench.entry)) (M.backward (any_map bench.entry)) (scene_of bench.entry cells.old) }
     ensures map { map_of result ≡ any_map bench.entry }
@@ -87,8 +87,8 @@ pub fn run<'m, M: Map>(
     ensures answer { result.1 ≡ run_answer (M.forward (map_of bench.entry)) (M.backward (map_of bench.entry)) (rest_scene bench.entry cells.old) first_line text.now }
     ensures scene { rest_scene result.0 cells.new ≡ run_scene (M.forward (map_of bench.entry)) (M.backward (map_of bench.entry)) (rest_scene bench.entry cells.old) first_line text.now }
     ensures map { map_of result.0 ≡ map_of bench.entry }
-    // if the bench was opened on l, and each call since then was handed the cells that were held, then after the run no session is open and what is
-    // held is what the standing actions make of l
+    // of a bench that was opened on l, and to which nothing but the cells that it held was ever lent: it rests on the lattice that comes of l by
+    // the standing actions
     ensures stands { (l : Lattice) → Within l → HasLived (M.forward (map_of bench.entry)) (M.backward (map_of bench.entry)) l (rest_scene bench.entry cells.old) → RestsOn (M.forward (map_of bench.entry)) (M.backward (map_of bench.entry)) l (rest_scene result.0 cells.new) }
     // the calls of the run are further calls of the same life
     ensures lived { (l : Lattice) → HasLived (M.forward (map_of bench.entry)) (M.backward (map_of bench.entry)) l (rest_scene bench.entry cells.old) → HasLived (M.forward (map_of bench.entry)) (M.backward (map_of bench.entry)) l (rest_scene result.0 cells.new) }

@@ -28,9 +28,9 @@ fn count_records(text: &[u8], first_line: LineNumber) -> Result<usize, RecordFau
 #[tactic(auto, using(crate::proofs::ScriptLaws::accepted_count, crate::proofs::ScriptLaws::taken, crate::proofs::ScriptRefused::check_first, crate::proofs::FaultLines::fault_named))]
 pub fn check(text: &[u8], first_line: LineNumber) -> Result<usize, RecordFault>
     ensures answer { result ≡ count_of (script first_line text.now) }
-    // an accepted text is, byte for byte, the written form of that many records
+    // nothing is accepted but the text of as many records
     ensures accepted { IfOk result (λ count. (rs : List Record) × IsScript rs text.now × (count ≡ length rs)) }
-    // the written form of permitted records is accepted, and read as those records
+    // the text of a list that can be a script is accepted, and gives that list
     ensures taken { (rs : List Record) → IsScript rs text.now → (script first_line text.now ≡ Ok rs) × (result ≡ Ok (length rs)) }
     // a fault is reported exactly where it is the first one
     ensures first { (e : RecordFault) → (result ≡ Err e) ↔ TextFault first_line text.now e }

@@ -24,8 +24,8 @@ impl<const N: usize> Table<N> {
     ghost use Rattle.tables.specs.Tables.{entries_of, inverse_of};
     ghost use Rattle.tables.specs.Names.{Written};
 
-    /// Replaces the whole table by the permutation with these entries, or changes nothing. Refused with the first of `Entries`, `TooLarge` and
-    /// `Repeated` that applies.
+    /// Takes these entries in place of all that are there. If one of `Entries`, `TooLarge` and `Repeated` applies, it takes none and returns the
+    /// first of these that does.
     pub fn fill(&mut self, entries: &[u8]) -> Result<(), TableRefusal>
         ensures { Filled N entries.now (entries_of self.new) (self.new ≡ self.old) result }
     {

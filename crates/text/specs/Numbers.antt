@@ -1,6 +1,6 @@
 -- Numbers as a text writes them.
 --     max_digits, max_number      the most digits of a number, and the largest number
---     is_number bs                bs is one to six decimal digits, the first of them 0 only in `0` itself
+--     is_number bs                bs is made of decimal digits, at most six, and there is no shorter way to write that number
 --     number_of bs                the number that bs is, if it is one
 --     signed_of bs                the same with an optional leading minus, which may not precede `0`
 --     number_at n k bs            the number that bs is, which is field k of line n; or the fault that it is not one

@@ -50,7 +50,7 @@ impl<'t> Field<'t> {
         !matches!(self, Field::Inner { .. })
     }
 
-    /// The field as a number without a sign: up to six decimal digits, no leading zero unless it is `0`. Otherwise `NotANumber` at its place.
+    /// The number that the field is, without a sign, written as briefly as possible in at most six digits; `NotANumber` with its place if it is none.
     #[tactic(auto, using(crate::proofs::Written::number_read, crate::proofs::Written::number_written))]
     pub fn number(&self) -> Result<u32, FieldFault>
         ensures value { result ≡ ok_or (number_of (bytes_of self.now)) (NotANumber (place_of self.now)) }

@@ -4,7 +4,7 @@ ghost use Rattle.text.specs.Numbers.{number_of, signed_of, max_number};
 
 const MAX_DIGITS: usize = 6;
 
-// At least one decimal digit and at most six, with no leading zero unless `0` is all there is.
+// The number that the bytes are, if they are the shortest way to write it, in at most six digits.
 #[tactic(auto, using(crate::proofs::Digits::value_small, crate::proofs::Digits::digits_more, crate::proofs::Digits::value_more, crate::proofs::Digits::value_below), unfolding(crate::specs::Numbers::number_of))]
 pub(crate) fn number(bytes: &[u8]) -> Option<u32>
     ensures value { result ≡ number_of bytes.now }

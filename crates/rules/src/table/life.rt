@@ -31,7 +31,7 @@ fn written_out() -> [u8; 512]
 }
 
 impl TableRule {
-    /// Life: a table with the values of the count rule with birth 8 and survival 12.
+    /// The table rule that answers as `CountRule` does for Life.
     pub fn life() -> TableRule
         ensures { SameAnswers (table_answer result) life }
     {
